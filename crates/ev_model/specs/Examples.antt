@@ -1,5 +1,5 @@
 -- Small scenes, and what they look like.
-use Rattle.std.specs.Prelude.{◌≡◌, ℕ, pos, neg_ℤ, true, false, refl, map, replicate, slice_set, flat_map, List, [], ◌∷◌, ◌++◌, Some, None}
+use Rattle.std.specs.Prelude.{◌≡◌, ℕ, pos, neg_ℤ, true, false, refl, map, replicate, slice_set, List, [], ◌∷◌, ◌++◌, Some, None}
 use Rattle.ev_argb.specs.Argb.{unpacked, packed}
 use Rattle.ev_model.specs.Glyphs.{Glyphs}
 use Rattle.ev_model.specs.Paint.{redrawn}
@@ -33,7 +33,7 @@ inside id o = record o { parent = Some id }
 
 -- the words of the pixels of a full redraw
 abbrev words : ℕ → ℕ → List Object → List ℕ
-words w h objects = flat_map (map packed) (redrawn (record { w = w; h = h; objects = objects }))
+words w h objects = map packed (redrawn (record { w = w; h = h; objects = objects }))
 
 abbrev image : ℕ → ℕ → List ℕ → Fill → ℕ → Content
 image w h pixels fill border = content.Image (record {

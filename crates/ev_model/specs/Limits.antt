@@ -9,6 +9,10 @@ use Rattle.ev_model.specs.declared.content.Fill.TheVariants.{Filled, Area}
 use Rattle.ev_model.specs.declared.content.Content.{Content}
 use Rattle.ev_model.specs.declared.content.Content.TheVariants as content
 use Rattle.ev_model.specs.declared.object.Object.{Object}
+use Rattle.ev_model.specs.declared.command.Edit.{Edit}
+use Rattle.ev_model.specs.declared.command.Edit.TheVariants.{Say}
+use Rattle.ev_model.specs.declared.command.Command.{Command}
+use Rattle.ev_model.specs.declared.command.Command.TheVariants as command
 
 -- an area in which an image repeats is 1 to 1,000,000 wide and high
 pub record IsFillArea (x y : ℤ) (w h : ℕ) : Type 0 where
@@ -45,3 +49,12 @@ pub record IsObject (o : Object) : Type 0 where
 
 abbrev pub AreObjects : List (Held Object) → Type 0
 AreObjects states = All (λ s. IsObject s.value) states
+
+-- a text that is said keeps its limits; numbers may be anything
+abbrev pub IsEdit : Edit → Type 0
+IsEdit (Say name text) = IsText text.now
+IsEdit edit = Unit {0}
+
+abbrev pub IsCommand : Command → Type 0
+IsCommand (command.Edit edit) = IsEdit edit
+IsCommand command = Unit {0}

@@ -1,5 +1,5 @@
 -- What a scene looks like, pixel by pixel.
-use Rattle.std.specs.Prelude.{◌≡◌, ℕ, ◌<◌, pos, ◌-ℤ◌, unsigned_abs, if◌then◌else◌, List, fold, map, Option, Some, None}
+use Rattle.std.specs.Prelude.{◌≡◌, ℕ, ◌<◌, pos, ◌-ℤ◌, unsigned_abs, if◌then◌else◌, List, fold, flat_map, map, Option, Some, None}
 use Rattle.std.specs.List.{range_with_len}
 use Rattle.ev_argb.specs.Argb.{Argb, tint, over, clear}
 use Rattle.ev_argb.specs.Grid.{Grid, IsWhole, pixel_at}
@@ -49,6 +49,6 @@ pub record IsRedrawn (s : Stage) (grid : Grid) : Type 0 where
   pub whole : IsWhole grid
   pub pixels : (x y : ℕ) → x < s.w → y < s.h → pixel_at grid x y ≡ paint s x y
 
--- the pixels of a full redraw, row by row
-abbrev pub redrawn : Stage → List (List Argb)
-redrawn s = map (λ y. map (λ x. paint s x y) (range_with_len 0 s.w)) (range_with_len 0 s.h)
+-- the pixels of a full redraw, row by row from the top
+abbrev pub redrawn : Stage → List Argb
+redrawn s = flat_map (λ y. map (λ x. paint s x y) (range_with_len 0 s.w)) (range_with_len 0 s.h)

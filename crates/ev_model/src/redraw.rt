@@ -1,11 +1,12 @@
 // The plain full redraw: object by object, from the lowest to the highest.
-ghost use Rattle.std.specs.Prelude.{◌≡◌, pos, ◌<◌, ◌≤◌, ◌≤ℤ◌, ◌<ℤ◌, ◌+ℤ◌};
-ghost use Rattle.ev_argb.specs.Grid.{IsWhole};
+ghost use Rattle.std.specs.Prelude.{◌≡◌, flat_map, pos, ◌<◌, ◌≤◌, ◌≤ℤ◌, ◌<ℤ◌, ◌+ℤ◌};
+ghost use Rattle.std.specs.List.{range_with_len};
+ghost use Rattle.ev_argb.specs.Grid.{IsWhole, row_of};
 ghost use Rattle.ev_model.specs.Stage.{stage};
 ghost use Rattle.ev_model.specs.Look.{look};
 ghost use Rattle.ev_model.specs.Walk.{look_as, IsOnCanvas};
 ghost use Rattle.ev_model.specs.Painted.{cleared, Remakes, RemakesRow};
-ghost use Rattle.ev_model.specs.Paint.{IsRedrawn, painted, painted_by, put_sample, sample_at, put};
+ghost use Rattle.ev_model.specs.Paint.{IsRedrawn, redrawn, painted, painted_by, put_sample, sample_at, put};
 ghost use Rattle.ev_model.specs.Limits.{IsObject, AreObjects};
 
 use crate::look::look;
@@ -21,7 +22,8 @@ pub fn full_redraw(scene: &Scene, picture: &mut Picture)
     requires width { picture.old.w ≡ scene.now.w }
     requires height { picture.old.h ≡ scene.now.h }
     requires limits { AreObjects scene.now.objects }
-    ensures { IsRedrawn (stage scene.now) picture.new }
+    ensures redrawn { IsRedrawn (stage scene.now) picture.new }
+    ensures rows { flat_map (row_of picture.new) (range_with_len 0 picture.new.h) ≡ redrawn (stage scene.now) }
 {
     clear(picture);
     for state in scene.objects.as_slice() {

@@ -1,6 +1,6 @@
 // Names, copies, and a small scene that is drawn.
 ghost use Rattle.std.specs.Prelude.{IfOk};
-ghost use Rattle.ev_model.specs.Limits.{IsObject};
+ghost use Rattle.ev_model.specs.Limits.{IsContent, IsObject};
 ghost use Rattle.ev_model.specs.Small.{IsSmall};
 
 use crate::{
@@ -27,7 +27,9 @@ fn names_begin_with_no_mark_but_an_underscore(rt: HostRuntime) -> Result<(), Fai
 }
 
 // An object of 4 by 4 at 0, 0.
-fn object(id: u64, name: Name, color: Pixel, clipper: Option<u64>, content: Content) -> Object {
+fn object(id: u64, name: Name, color: Pixel, clipper: Option<u64>, content: Content) -> Object
+    ensures { IsContent content → IsObject result }
+{
     Object {
         id,
         name,
@@ -39,6 +41,14 @@ fn object(id: u64, name: Name, color: Pixel, clipper: Option<u64>, content: Cont
         clipper,
         parent: None,
         content,
+    }
+}
+
+// The number of the load of an image.
+fn load_number(content: &Content) -> Option<u64> {
+    match content {
+        Content::Image(part) => part.loaded.as_ref().map(|loaded| loaded.number()),
+        _ => None,
     }
 }
 
@@ -59,17 +69,10 @@ fn copies_share_a_loaded_image(rt: HostRuntime) -> Result<(), Fail> {
         },
         center: true,
     };
-    let first = object(1, name, Pixel::CLEAR, None, Content::Image(part));
-    let second = first.copied()?;
-    assert_eq!(rt; second.content.kind(), Kind::Image);
-    match second.content {
-        Content::Image(part) => {
-            let loaded = part.loaded.expect(&rt, "loaded");
-            assert_eq!(rt; loaded.number(), 7);
-            assert!(rt; !loaded.image().opaque());
-        }
-        _ => assert!(rt; false),
-    }
+    let object = object(1, name, Pixel::CLEAR, None, Content::Image(part));
+    let copy = object.copied()?;
+    assert_eq!(rt; copy.content.kind(), Kind::Image);
+    assert_eq!(rt; load_number(&copy.content), Some(7));
     Ok(())
 }
 

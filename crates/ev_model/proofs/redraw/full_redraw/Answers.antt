@@ -6,6 +6,7 @@ use Rattle.ev_model.specs.Stage.{stage, values}
 use Rattle.ev_model.specs.Limits.{IsObject, AreObjects}
 use Rattle.ev_model.specs.Painted.{IsPaintedBy}
 use Rattle.ev_model.specs.declared.object.Object.{Object}
+use Rattle.ev_model.proofs.Rows.{redrawn_rows}
 use Rattle.ev_model.proofs.redraw.full_redraw.Goals as goal
 
 pub paint_object-requires-clause-limits : goal.paint_object-requires-clause-limits
@@ -16,10 +17,13 @@ paint_object-requires-clause-limits c =
     subst IsObject (sym c.get.ensures) here
 
 -- after the loop all objects are painted
-pub returns : goal.returns
-returns c =
+pub returns-clause-redrawn : goal.returns-clause-redrawn
+returns-clause-redrawn c =
     let objects = c.args.scene.now.objects in
     let all : c.loop-state.state-index ≡ length objects = omega (arith, ap length c.as_slice-state-items.ensures, c.loop-state-test.false, c.loop-state.auto.state-index-end) in
     let P : List (Held Object) → Type 0 = λ states. IsPaintedBy (stage c.args.scene.now) (values states) c.loop-state.picture in
     let by = subst P (ap (λ n. take n objects) all ∙ take-length objects) c.loop-state.invariant in
     record { width = by.width; height = by.height; whole = by.whole; pixels = by.pixels }
+
+pub returns-clause-rows : goal.returns-clause-rows
+returns-clause-rows c = redrawn_rows (stage c.args.scene.now) c.loop-state.picture (returns-clause-redrawn c)
