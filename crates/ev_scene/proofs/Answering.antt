@@ -42,9 +42,10 @@ module _ (b : Board) (name : List ℕ) where
       → objects' ≡ put b.objects id None → order' ≡ without b.order id
       → (known b name (λ o. None) ≡ None) × (◌≡◌ {A = Board} (record { w = b.w; h = b.h; objects = objects'; order = order' }) (with_named b name (deleted b)))
   delete_answers id objects' order' e f g = named_at id e (λ o found same. (
-      known_at o (λ o. None) found,
-      ap₂ (λ objects order. record { w = b.w; h = b.h; objects = objects; order = order }) (f ∙ ap (λ id. put b.objects id None) same) (g ∙ ap (without b.order) same)
-          ∙ sym (with_at o (deleted b) found)))
+    known_at o (λ o. None) found,
+    ap₂ (λ objects order. record { w = b.w; h = b.h; objects = objects; order = order }) (f ∙ ap (λ id. put b.objects id None) same) (g ∙ ap (without b.order) same)
+        ∙ sym (with_at o (deleted b) found),
+  ))
 
   -- a change of a look, which stands for numbers in range
   pub change_answers : {T : Type 0} (in_range : Bool) (c : Change) (change : Option Change) (result : Result T Refusal) (b' : Board) → change ≡ (if in_range then Some c else None)
@@ -63,6 +64,7 @@ module _ (b : Board) (name : List ℕ) where
     out : (found : Option Object) → option_map_or (λ o. unless false refusal.Range) found (Some refusal.Unknown) ≡ None → ⊥
     out None h = none-some refusal.Unknown (sym h)
     out (Some o) h = none-some refusal.Range (sym h)
+
     go : (result : Result T Refusal) (change : Option Change) → change ≡ None
         → OnOk result ((known b name (λ o. unless (is_some change) refusal.Range) ≡ None) × IfSome change (λ c. b' ≡ with_named b name (changed c b)))
         → IfErr result (λ cause. Refuses (known b name (λ o. unless (is_some change) refusal.Range)) cause × (b' ≡ b))
@@ -74,8 +76,9 @@ module _ (b : Board) (name : List ℕ) where
   pub restack_answers : (move : List (ℕ × ℤ) → ℕ → List (ℕ × ℤ)) (o : Object) (order' : List (ℕ × ℤ)) → Some o ≡ named b.objects name → order' ≡ move b.order o.id
       → (known b name (λ o. None) ≡ None) × (◌≡◌ {A = Board} (record { w = b.w; h = b.h; objects = b.objects; order = order' }) (with_named b name (restacked move b)))
   restack_answers move o order' found e = (
-      known_at o (λ o. None) (sym found),
-      ap (λ order. record { w = b.w; h = b.h; objects = b.objects; order = order }) e ∙ sym (with_at o (restacked move b) (sym found)))
+    known_at o (λ o. None) (sym found),
+    ap (λ order. record { w = b.w; h = b.h; objects = b.objects; order = order }) e ∙ sym (with_at o (restacked move b) (sym found)),
+  )
 
 -- an object that stands among its siblings is known to them
 pub never_unknown : (order : List (ℕ × ℤ)) (id : ℕ) (layer : ℤ) (cause : StackErr) → layer_in order id ≡ Some layer → Some cause ≡ known_fault order id → ⊥
@@ -89,7 +92,7 @@ beside_answers order o p at_o at_p free_o free_p =
   where
     choice : (same level : Bool)
         → (if same then Some refusal.Itself else if false then Some refusal.Sibling else unless level refusal.Layer)
-          ≡ option_map refusal_of (if same then Some stack.Itself else if level then None else Some stack.Layer)
+        ≡ option_map refusal_of (if same then Some stack.Itself else if level then None else Some stack.Layer)
     choice true level = refl
     choice false true = refl
     choice false false = refl
@@ -101,14 +104,16 @@ module _ (b : Board) (name other : List ℕ) (o p : Object) (found : Some o ≡ 
 
   pub place_answers : (above : Bool) (order' : List (ℕ × ℤ)) → None ≡ place_fault b.order o.id p.id → order' ≡ (if above then placed_above b.order o.id p.id else placed_below b.order o.id p.id)
       → (known b name (λ o. known b other (beside o)) ≡ None)
-        × (◌≡◌ {A = Board} (record { w = b.w; h = b.h; objects = b.objects; order = order' }) (with_named b name (λ o. with_named b other (placed above b o))))
+      × (◌≡◌ {A = Board} (record { w = b.w; h = b.h; objects = b.objects; order = order' }) (with_named b name (λ o. with_named b other (placed above b o))))
   place_answers above order' none e = (
-      place_verdict ∙ ap (option_map refusal_of) (sym none),
-      ap (λ order. record { w = b.w; h = b.h; objects = b.objects; order = order }) e
-          ∙ sym (with_at b name o (λ o. with_named b other (placed above b o)) (sym found) ∙ with_at b other p (placed above b o) (sym near)))
+    place_verdict ∙ ap (option_map refusal_of) (sym none),
+    ap (λ order. record { w = b.w; h = b.h; objects = b.objects; order = order }) e
+        ∙ sym (with_at b name o (λ o. with_named b other (placed above b o)) (sym found) ∙ with_at b other p (placed above b o) (sym near)),
+  )
 
   pub place_refuses : (cause : StackErr) (order' : List (ℕ × ℤ)) → Some cause ≡ place_fault b.order o.id p.id → order' ≡ b.order
       → Refuses (known b name (λ o. known b other (beside o))) (refusal_of cause) × (◌≡◌ {A = Board} (record { w = b.w; h = b.h; objects = b.objects; order = order' }) b)
   place_refuses cause order' fault e = (
-      subst (λ verdict. Refuses verdict (refusal_of cause)) (sym (place_verdict ∙ ap (option_map refusal_of) (sym fault))) refl,
-      ap (λ order. record { w = b.w; h = b.h; objects = b.objects; order = order }) e)
+    subst (λ verdict. Refuses verdict (refusal_of cause)) (sym (place_verdict ∙ ap (option_map refusal_of) (sym fault))) refl,
+    ap (λ order. record { w = b.w; h = b.h; objects = b.objects; order = order }) e,
+  )

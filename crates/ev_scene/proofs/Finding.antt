@@ -68,8 +68,8 @@ module _ (states : List (Option (Held Object))) (ids : List (Label × ℕ)) (see
       let free' : named (values_of states) s.value.name ≡ None = ap (λ seen. named (values_of seen) s.value.name) is ∙ free in
       let none : was ≡ None = old ∙ ap (id_in ids) same_name ∙ free_name states ids roll s.value.name free' in
       let leads' : (q : List ℕ) → id_in ids' q ≡ cond (same_label (record { name = s.value.name }) (record { name = q })) (Some s.value.id) (id_in ids q) =
-          λ q. leads (record { name = q }) ∙ ap (λ name. cond (same_label (record { name = name }) (record { name = q })) (Some id) (id_in ids q)) same_name
-              ∙ ap (λ id. cond (same_label (record { name = s.value.name }) (record { name = q })) (Some id) (id_in ids q)) same_id in
+      λ q. leads (record { name = q }) ∙ ap (λ name. cond (same_label (record { name = name }) (record { name = q })) (Some id) (id_in ids q)) same_name
+      ∙ ap (λ id. cond (same_label (record { name = s.value.name }) (record { name = q })) (Some id) (id_in ids q)) same_id in
       subst P (sym items) (added states ids ids' s roll next' free' leads' (more ∙ ap (λ was. length ids + (if is_some was then 0 else 1)) none))
 
   pub removed_from : (ids' : List (Label × ℕ)) (name : List ℕ) (id : ℕ) → Some id ≡ id_in ids name
@@ -93,4 +93,4 @@ module _ (states : List (Option (Held Object))) (ids : List (Label × ℕ)) (see
       let P : List (Option (Held Object)) → Type 0 = λ seen. values_of (put states id (Some (record { value = o; serial = serial }))) ≡ put (values_of seen) id (option_map (apply c) (of_id (values_of seen) id)) in
       let at : of_id (values_of states) id ≡ Some s.value = of_id_map value_of states id ∙ ap (option_map value_of) there in
       subst P is (map-set (λ slot. option_map value_of slot) states (id - 1) (Some (record { value = o; serial = serial }))
-          ∙ ap (put (values_of states) id) (ap Some e ∙ sym (ap (option_map (apply c)) at)))
+      ∙ ap (put (values_of states) id) (ap Some e ∙ sym (ap (option_map (apply c)) at)))

@@ -4,3 +4,4 @@ pub mod Finding
 pub mod Restacking
 pub mod Standing
 pub mod Answering
+pub mod Capturing

@@ -78,12 +78,14 @@ added_leads : (b c : Bool) (n i : ℕ) (new name : List ℕ) (A A' : Option ℕ)
     → (A' ≡ Some i) ↔ (P' ≡ Some name)
 added_leads true true n i new name A A' P P' b_is is_b c_is is_c a p both free past =
     ((λ h. p ∙ ap Some (b_is refl)), (λ h. a ∙ ap Some (sym (c_is refl))))
-added_leads true false n i new name A A' P P' b_is is_b c_is is_c a p both free past =
-    ((λ h. absurd (true≢false (sym (is_c (sym (same_Some _ _ (sym a ∙ h))))))),
-     (λ h. absurd (none-some i (sym (free (b_is refl)) ∙ both.1 (sym p ∙ h)))))
-added_leads false true n i new name A A' P P' b_is is_b c_is is_c a p both free past =
-    ((λ h. absurd (none-some name (sym (past (c_is refl)) ∙ both.0 (sym a ∙ h)))),
-     (λ h. absurd (true≢false (sym (is_b (same_Some _ _ (sym p ∙ h)))))))
+added_leads true false n i new name A A' P P' b_is is_b c_is is_c a p both free past = (
+  (λ h. absurd (true≢false (sym (is_c (sym (same_Some _ _ (sym a ∙ h))))))),
+  (λ h. absurd (none-some i (sym (free (b_is refl)) ∙ both.1 (sym p ∙ h)))),
+)
+added_leads false true n i new name A A' P P' b_is is_b c_is is_c a p both free past = (
+  (λ h. absurd (none-some name (sym (past (c_is refl)) ∙ both.0 (sym a ∙ h)))),
+  (λ h. absurd (true≢false (sym (is_b (same_Some _ _ (sym p ∙ h)))))),
+)
 added_leads false false n i new name A A' P P' b_is is_b c_is is_c a p both free past =
     ((λ h. p ∙ both.0 (sym a ∙ h)), (λ h. a ∙ both.1 (sym p ∙ h)))
 
@@ -95,12 +97,14 @@ removed_leads : (b c : Bool) (id i : ℕ) (gone name : List ℕ) (A A' : Option 
     → (A' ≡ Some i) ↔ (P' ≡ Some name)
 removed_leads true true id i gone name A A' P P' b_is is_b c_is is_c a p both led there =
     ((λ h. absurd (none-some i (sym a ∙ h))), (λ h. absurd (none-some name (sym p ∙ h))))
-removed_leads true false id i gone name A A' P P' b_is is_b c_is is_c a p both led there =
-    ((λ h. absurd (none-some i (sym a ∙ h))),
-     (λ h. absurd (true≢false (sym (is_c (same_Some _ _ (sym (both.1 (sym p ∙ h)) ∙ led (b_is refl))))))))
-removed_leads false true id i gone name A A' P P' b_is is_b c_is is_c a p both led there =
-    ((λ h. absurd (true≢false (sym (is_b (same_Some _ _ (sym (there (c_is refl)) ∙ both.0 (sym a ∙ h))))))),
-     (λ h. absurd (none-some name (sym p ∙ h))))
+removed_leads true false id i gone name A A' P P' b_is is_b c_is is_c a p both led there = (
+  (λ h. absurd (none-some i (sym a ∙ h))),
+  (λ h. absurd (true≢false (sym (is_c (same_Some _ _ (sym (both.1 (sym p ∙ h)) ∙ led (b_is refl))))))),
+)
+removed_leads false true id i gone name A A' P P' b_is is_b c_is is_c a p both led there = (
+  (λ h. absurd (true≢false (sym (is_b (same_Some _ _ (sym (there (c_is refl)) ∙ both.0 (sym a ∙ h))))))),
+  (λ h. absurd (none-some name (sym p ∙ h))),
+)
 removed_leads false false id i gone name A A' P P' b_is is_b c_is is_c a p both led there =
     ((λ h. p ∙ both.0 (sym a ∙ h)), (λ h. a ∙ both.1 (sym p ∙ h)))
 

@@ -75,9 +75,9 @@ found test (Some z ∷ slots) zero x h passes alone = first z (same_Some z x h) 
   first z e = rw (e, passes) refl
 found test (Some z ∷ slots) (suc k) x h passes alone =
     later (test z) refl (found test slots k x h passes (λ j y there same. grind (arith, alone (suc j) y there same))) where
-  later : (b : Bool) → test z ≡ b → find test (live slots) ≡ Some x → cond b (Some z) (find test (live slots)) ≡ Some x
-  later true e rest = let none : 0 ≡ suc k = alone 0 z refl e in absurd (omega (arith, none))
-  later false e rest = rest
+      later : (b : Bool) → test z ≡ b → find test (live slots) ≡ Some x → cond b (Some z) (find test (live slots)) ≡ Some x
+      later true e rest = let none : 0 ≡ suc k = alone 0 z refl e in absurd (omega (arith, none))
+      later false e rest = rest
 
 -- where nothing passes, nothing is found
 pub none_found : {A : Type 0} (test : A → Bool) (slots : List (Option A)) → ((j : ℕ) (y : A) → at_place slots j ≡ Some y → test y ≡ false) → find test (live slots) ≡ None
@@ -109,6 +109,7 @@ pub of_id_end : {A : Type 0} (slots : List (Option A)) (other : ℕ) (y : Option
 of_id_end slots zero y = first (length slots) (0 == length slots + 1) refl where
   none_at : (n : ℕ) → (0 == n + 1) ≡ true → ⊥
   none_at n e = grind (arith, nat_tests)
+
   first : (n : ℕ) (b : Bool) → (0 == n + 1) ≡ b → None ≡ (if b then y else None)
   first n true e = absurd (none_at n e)
   first n false e = refl

@@ -117,6 +117,7 @@ still_beside order order' moved id other (Ok done) fault ok err stay q = go (lay
   apart level f e = none-some Itself (f ∙ ap (λ same. if same then Some Itself else if level then None else Some Layer) (eqb_refl id other (sym e))) where
     eqb_refl : (a b : ℕ) → a ≡ b → (a == b) ≡ true
     eqb_refl a b e = grind (arith, nat_tests)
+
   go : (own near : Option ℤ) → layer_in order id ≡ own → layer_in order other ≡ near → None ≡ beside_fault own near id other → layer_in order' q ≡ layer_in order q
   go None near e f g = absurd (none-some Unknown g)
   go (Some layer) None e f g = absurd (none-some Unknown g)

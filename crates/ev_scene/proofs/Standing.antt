@@ -88,11 +88,14 @@ module _ (w h : ℕ) (objects : List (Option Object)) (order : List (ℕ × ℤ)
       let plain : IsPlain o = whole.plain id o there in
       let plain' : IsPlain (apply (change.Lift layer) o) = record { limits = record { layer_low = layer_low layer fits; layer_high = layer_high layer fits; content = plain.limits.content }; content = plain.content; clipper = plain.clipper; parent = plain.parent } in
       relaid id o (apply (change.Lift layer) o) there plain' (relayered order id layer)
-          (layer_in-relayered order id o.layer (whole.stands id ∙ ap (option_map (λ o. o.layer)) there) distinct layer)
+      (layer_in-relayered order id o.layer (whole.stands id ∙ ap (option_map (λ o. o.layer)) there) distinct layer)
 
   pub deleted : (id : ℕ) (o : Object) → of_id objects id ≡ Some o → IsDistinct order → IsWhole w h (put objects id None) (without order id)
   deleted id o there distinct = record {
-    w_low = whole.w_low; w_high = whole.w_high; h_low = whole.h_low; h_high = whole.h_high;
+    w_low = whole.w_low;
+    w_high = whole.w_high;
+    h_low = whole.h_low;
+    h_high = whole.h_high;
     stands = λ q. layer_in-gone order id q distinct ∙ ap (λ layer. if q == id then None else layer) (whole.stands q)
         ∙ sym (ap (option_map (λ o. o.layer)) (of_id_put objects id q o None there) ∙ map_choice (λ o. o.layer) (q == id) None (of_id objects q));
     plain = λ q t at_q. some_choice (q == id) None (of_id objects q) t _ (sym (of_id_put objects id q o None there) ∙ at_q) (λ e f. absurd (none-some t f)) (λ e f. whole.plain q t f);
@@ -106,14 +109,17 @@ module _ (w h : ℕ) (objects : List (Option Object)) (order : List (ℕ × ℤ)
   made name apart =
       let new : Object = fresh (length objects + 1) name kind.Rect in
       record {
-        w_low = whole.w_low; w_high = whole.w_high; h_low = whole.h_low; h_high = whole.h_high;
+        w_low = whole.w_low;
+        w_high = whole.w_high;
+        h_low = whole.h_low;
+        h_high = whole.h_high;
         stands = λ q. layer_in-pushed order (length objects + 1) (pos 0) q apart ∙ ap (λ layer. if q == length objects + 1 then Some (pos 0) else layer) (whole.stands q)
             ∙ sym (ap (option_map (λ o. o.layer)) (of_id_end objects q (Some new)) ∙ map_choice (λ o. o.layer) (q == length objects + 1) (Some new) (of_id objects q));
         plain = λ q t at_q. some_choice (q == length objects + 1) (Some new) (of_id objects q) t _ (sym (of_id_end objects q (Some new)) ∙ at_q)
             (λ e f. subst (λ t. IsPlain t) (same_Some _ _ f) (new_plain (length objects + 1) name)) (λ e f. whole.plain q t f);
       } where
-    new_plain : (id : ℕ) (name : List ℕ) → IsPlain (fresh id name kind.Rect)
-    new_plain id name = record { limits = record { layer_low = omega (arith, ints); layer_high = omega (arith, ints); content = tt }; content = refl; clipper = refl; parent = refl }
+        new_plain : (id : ℕ) (name : List ℕ) → IsPlain (fresh id name kind.Rect)
+        new_plain id name = record { limits = record { layer_low = omega (arith, ints); layer_high = omega (arith, ints); content = tt }; content = refl; clipper = refl; parent = refl }
 
   pub looked_to : (id : ℕ) (o : Object) (c : Change) (objects' : List (Option Object)) → of_id objects id ≡ Some o → IsLook c → objects' ≡ put objects id (option_map (apply c) (of_id objects id)) → IsWhole w h objects' order
   looked_to id o c objects' there look e =
@@ -125,7 +131,7 @@ module _ (w h : ℕ) (objects : List (Option Object)) (order : List (ℕ × ℤ)
   lifted_to id o layer objects' order' there fits distinct e f =
       let P : List (Option Object) → List (ℕ × ℤ) → Type 0 = λ objects order. IsWhole w h objects order in
       subst (λ order. P objects' order) (sym f)
-          (subst (λ objects. P objects (relayered order id layer)) (sym (e ∙ ap (λ slot. put objects id (option_map (apply (change.Lift layer)) slot)) there)) (lifted id o layer there fits distinct))
+      (subst (λ objects. P objects (relayered order id layer)) (sym (e ∙ ap (λ slot. put objects id (option_map (apply (change.Lift layer)) slot)) there)) (lifted id o layer there fits distinct))
 
   pub deleted_to : (id : ℕ) (o : Object) (objects' : List (Option Object)) (order' : List (ℕ × ℤ)) → of_id objects id ≡ Some o → IsDistinct order
       → objects' ≡ put objects id None → order' ≡ without order id → IsWhole w h objects' order'
@@ -150,8 +156,8 @@ made_to w h states order whole states' s name id order' e f next g =
     let size : length objects ≡ length states = length-map states (λ slot. option_map value_of slot) in
     let last : id ≡ length objects + 1 = next ∙ ap (λ n. n + 1) (sym size) in
     let values : values_of states' ≡ objects ++ Some (fresh (length objects + 1) name kind.Rect) ∷ [] =
-        ap values_of e ∙ map-append (λ slot. option_map value_of slot) states (Some s ∷ []) ∙ ap (λ o. objects ++ Some o ∷ []) (f ∙ ap (λ id. fresh id name kind.Rect) last) in
+    ap values_of e ∙ map-append (λ slot. option_map value_of slot) states (Some s ∷ []) ∙ ap (λ o. objects ++ Some o ∷ []) (f ∙ ap (λ id. fresh id name kind.Rect) last) in
     let P : List (Option Object) → Type 0 = λ objects. IsWhole w h objects order' in
     let Q : List (ℕ × ℤ) → Type 0 = λ order. IsWhole w h (objects ++ Some (fresh (length objects + 1) name kind.Rect) ∷ []) order in
     subst P (sym values) (subst Q (sym (g ∙ ap (λ id. put_top order id (pos 0)) last))
-        (made w h objects order whole name (apart_absent order (length objects + 1) (next_free w h objects order whole))))
+    (made w h objects order whole name (apart_absent order (length objects + 1) (next_free w h objects order whole))))

@@ -4,6 +4,7 @@ use Rattle.std.specs.Str.{bytes_eq}
 use Rattle.ev_state.specs.Held.{Held}
 use Rattle.ev_model.specs.Stage.{Stage}
 use Rattle.ev_model.specs.declared.object.Object.{Object}
+use Rattle.ev_stack.specs.Order.{ids_of}
 use Rattle.ev_scene.specs.Slots.{of_id, live, value_of}
 
 pub record Board : Type 0 where
@@ -39,7 +40,7 @@ named objects name = find (is_named name) (live objects)
 
 -- the objects in their order
 abbrev pub in_order : List (Option Object) → List (ℕ × ℤ) → List Object
-in_order objects order = filter_map (λ one. of_id objects one.0) order
+in_order objects order = filter_map (of_id objects) (ids_of order)
 
 -- what is painted of a scene: its objects in their order
 abbrev pub stage_of : Board → Stage

@@ -68,6 +68,14 @@ content_of kind.Text = content.Text (record { key = None; loaded = None; text = 
 -- a new object: at 0, 0, without size, hidden, white, blended, in layer 0, and over it nothing
 abbrev pub fresh : ℕ → List ℕ → Kind → Object
 fresh id name kind = record {
-  id = id; name = name; rect = nowhere; shown = false; color = clamped 255 255 255 255; op = Blend;
-  layer = pos 0; clipper = None; parent = None; content = content_of kind;
+  id = id;
+  name = name;
+  rect = nowhere;
+  shown = false;
+  color = clamped 255 255 255 255;
+  op = Blend;
+  layer = pos 0;
+  clipper = None;
+  parent = None;
+  content = content_of kind;
 }

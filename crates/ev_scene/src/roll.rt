@@ -50,6 +50,11 @@ impl Roll {
         }
     }
 
+    // Where states are made.
+    pub fn alloc(&self) -> Global {
+        self.alloc
+    }
+
     // How many states were made.
     pub fn made(&self) -> u64
         ensures { result ≡ self.now.made }

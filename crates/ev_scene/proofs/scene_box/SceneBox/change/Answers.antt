@@ -11,4 +11,4 @@ pub invariant_of-self-2 : goal.invariant_of-self-2
 invariant_of-self-2 c =
     let look : IsLook c.in-Some-change.change = search rules in
     looked_to c.self.inside.w c.self.inside.h (values_of c.self.inside.roll.states) c.self.inside.order c.self.invariant c.in-Some.object.now.id c.in-Some.object.now c.in-Some-change.change
-        (values_of c.change.new.self.states) (c.in-Some.ensures).there look (c.in_ok-change.ensures).ok
+    (values_of c.change.new.self.states) (c.in-Some.ensures).there look (c.in_ok-change.ensures).ok

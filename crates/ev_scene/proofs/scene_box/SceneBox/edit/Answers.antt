@@ -15,7 +15,7 @@ returns-in-Move-clause-edits c =
     let y : FitsSigned w64 c.in-Move.y = search rules in
     let P : Edit → Type 0 = λ edit. Edits (board c.args.self.now) edit c.change.result (board c.change.new.self) in
     subst P (sym c.in-Move.is) (change_answers (board c.args.self.now) c.in-Move.name (is_place c.in-Move.x && is_place c.in-Move.y) (change.Place c.in-Move.x c.in-Move.y)
-        c.place.result c.change.result (board c.change.new.self) (simp to_z-of_z at c.place.ensures.value) c.change.ensures.ok c.change.ensures.err)
+    c.place.result c.change.result (board c.change.new.self) (simp to_z-of_z at c.place.ensures.value) c.change.ensures.ok c.change.ensures.err)
 
 pub returns-in-Resize-clause-edits : goal.returns-in-Resize-clause-edits
 returns-in-Resize-clause-edits c =
@@ -23,7 +23,7 @@ returns-in-Resize-clause-edits c =
     let h : FitsSigned w64 c.in-Resize.h = search rules in
     let P : Edit → Type 0 = λ edit. Edits (board c.args.self.now) edit c.change-in-Resize.result (board c.change-in-Resize.new.self) in
     subst P (sym c.in-Resize.is) (change_answers (board c.args.self.now) c.in-Resize.name (is_side c.in-Resize.w && is_side c.in-Resize.h) (change.Side c.in-Resize.w c.in-Resize.h)
-        c.side.result c.change-in-Resize.result (board c.change-in-Resize.new.self) (simp to_z-of_z at c.side.ensures.value) c.change-in-Resize.ensures.ok c.change-in-Resize.ensures.err)
+    c.side.result c.change-in-Resize.result (board c.change-in-Resize.new.self) (simp to_z-of_z at c.side.ensures.value) c.change-in-Resize.ensures.ok c.change-in-Resize.ensures.err)
 
 pub returns-in-Color-clause-edits : goal.returns-in-Color-clause-edits
 returns-in-Color-clause-edits c =
@@ -33,7 +33,7 @@ returns-in-Color-clause-edits c =
     let a : FitsSigned w64 c.in-Color.a = search rules in
     let P : Edit → Type 0 = λ edit. Edits (board c.args.self.now) edit c.change-in-Color.result (board c.change-in-Color.new.self) in
     subst P (sym c.in-Color.is) (change_answers (board c.args.self.now) c.in-Color.name (are_channels c.in-Color.r c.in-Color.g c.in-Color.b c.in-Color.a) (change.Paint (color_of c.in-Color.r c.in-Color.g c.in-Color.b c.in-Color.a))
-        c.paint.result c.change-in-Color.result (board c.change-in-Color.new.self) (simp to_z-of_z at c.paint.ensures.value) c.change-in-Color.ensures.ok c.change-in-Color.ensures.err)
+    c.paint.result c.change-in-Color.result (board c.change-in-Color.new.self) (simp to_z-of_z at c.paint.ensures.value) c.change-in-Color.ensures.ok c.change-in-Color.ensures.err)
 
 pub returns-in-Layer-clause-edits : goal.returns-in-Layer-clause-edits
 returns-in-Layer-clause-edits c =

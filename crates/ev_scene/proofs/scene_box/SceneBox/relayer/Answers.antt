@@ -11,5 +11,5 @@ invariant_of-self-2 c =
     let long : FitsSigned w64 c.args.layer = search rules in
     let short : FitsSigned w32 c.args.layer = search rules in
     lifted_to c.self.inside.w c.self.inside.h (values_of c.self.inside.roll.states) c.self.inside.order c.self.invariant c.in-Some.object.now.id c.in-Some.object.now c.args.layer
-        (values_of c.change.new.self.states) c.relayer.new.self (c.in-Some.ensures).there fits c.len-siblings.ensures.order.distinct
-        (simp to_z-of_z at (c.in_ok-change.ensures).ok) (simp to_z-of_z at (c.in-Ok.ensures).ok)
+    (values_of c.change.new.self.states) c.relayer.new.self (c.in-Some.ensures).there fits c.len-siblings.ensures.order.distinct
+    (simp to_z-of_z at (c.in_ok-change.ensures).ok) (simp to_z-of_z at (c.in-Ok.ensures).ok)
