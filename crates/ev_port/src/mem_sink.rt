@@ -6,6 +6,7 @@ ghost use Rattle.ev_port.specs.Memory.{write_fails, after_write};
 ghost use Rattle.ev_port.specs.Told.{GrowsBy, GrowsPart};
 
 use crate::calls::Calls;
+use crate::room::append;
 use crate::{Failed, NoMemory, Sink};
 use std::alloc::Global;
 use std::marker::Model;
@@ -62,14 +63,12 @@ impl Sink for MemSink {
         ensures fails { is_err result ≡ write_fails self.old piece.now }
         ensures after { self.new ≡ after_write self.old piece.now }
     {
-        if self.calls.is_listed()
-            || self.room < piece.len()
-            || self.bytes.extend_from_slice(piece).is_err()
-        {
+        if self.calls.is_listed() || self.room < piece.len() {
             self.calls.fail();
             return Err(Failed);
         }
         self.calls.pass();
+        append(&mut self.bytes, piece);
         self.room -= piece.len();
         Ok(())
     }
