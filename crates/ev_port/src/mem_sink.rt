@@ -11,8 +11,9 @@ use crate::{Failed, NoMemory, Sink};
 use std::alloc::Global;
 use std::marker::Model;
 
-/// A sink that keeps what is written, in room that it takes when it is made. It fails at the calls
-/// whose numbers it was given, counted from 1, and where a piece is larger than the room that is left.
+/// A sink that keeps what is written, in room that it takes when it is made (docs/ARCHITECTURE.md, The
+/// outside). It fails at the calls of `write` whose numbers it was given, counted from 1, and where a
+/// piece is larger than the room that is left. Nothing is appended then.
 #[derive(Drop)]
 pub struct MemSink {
     bytes: Vec<u8>,
@@ -32,7 +33,7 @@ impl Model for MemSink {
 }
 
 impl MemSink {
-    /// A sink with room for so many bytes.
+    /// A sink with room for so many bytes. `NoMemory`: the room found no memory.
     pub fn new(alloc: Global, room: usize, failing: Vec<u64>) -> Result<MemSink, NoMemory>
         ensures { IfOk result (λ sink. sink ≡ record { written = []; room = room; calls = no_calls failing.items }) }
     {
