@@ -63,7 +63,7 @@ fn rectangles(rt: HostRuntime) -> Result<(), Fail> {
         },
     )?;
     assert_eq!(&rt; screen.shown().len(), 1);
-    assert_eq!(&rt; screen.pixels()[1].bits(), 0xffff_0000);
+    assert_eq!(&rt; screen.pixels().len(), 2);
     compare(&rt, &PLAIN)?;
     // half red over white, and nearly opaque red over white
     compare(
