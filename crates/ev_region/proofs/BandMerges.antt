@@ -10,7 +10,7 @@ use Rattle.ev_region.specs.declared.combine.Combine.{Combine}
 use Rattle.ev_region.specs.declared.combine.Combine.TheVariants.{Union, Difference, Intersection}
 use Rattle.ev_region.specs.Combine.{keeps}
 use Rattle.ev_region.specs.RowMerge.{IsRowMerge}
-use Rattle.ev_region.specs.BandMerge.{StartsBelow, bands_at, IsNextTop, IsLeft, PassesTop, IsBandMerge, last_edges}
+use Rattle.ev_region.specs.BandMerge.{StartsBelow, bands_at, IsNextTop, IsLeft, PassesTop, PushesRow, IsBandMerge, last_edges}
 
 -- bands with none that begins above row y
 pub IsBands-from : (limit from y : ℕ) (row : List ℕ) (bands : List Band) → IsBands limit from row bands → StartsBelow y bands → IsBands limit y row bands
@@ -66,13 +66,6 @@ last_edges-push [] band = refl
 last_edges-push (first ∷ []) band = refl
 last_edges-push (first ∷ (next ∷ bands)) band = last_edges-push (next ∷ bands) band
 
-pub last_edges-get_or : (bands : List Band) (d : Band) → 1 ≤ length bands → last_edges bands ≡ (get_or bands (length bands - 1) d).edges
-last_edges-get_or [] d some = absurd (omega arith)
-last_edges-get_or (band ∷ []) d some = refl
-last_edges-get_or (band ∷ (next ∷ bands)) d some =
-    let tail : last_edges (next ∷ bands) ≡ (get_or (next ∷ bands) (length (next ∷ bands) - 1) d).edges = last_edges-get_or (next ∷ bands) d (omega arith) in
-    simp unary_clauses (simp unary_clauses at tail)
-
 -- where the merged row changes at y, the whole has a band there
 pub band_turn : (keeps : Bool → Bool → Bool) (from y : ℕ) (row_a : List ℕ) (a : List Band) (row_b : List ℕ) (b : List Band) (row row_a' : List ℕ) (a' : List Band) (row_b' : List ℕ) (b' : List Band) (band : Band) (rest : List Band) → from ≤ y → y ≤ 1000000 → PassesTop y row_a a row_a' a' → PassesTop y row_b b row_b' b' → IsRowMerge keeps 0 false row_a false row_b false row → IsRow 1000000 0 false band.edges → band.top ≡ y → (band.edges ≡ row → ⊥) → IsBandMerge keeps (y + 1) row_a' a' row_b' b' band.edges rest → IsBandMerge keeps from row_a a row_b b row (band ∷ rest)
 band_turn keeps from y row_a a row_b b row row_a' a' row_b' b' band rest low high p q row_is good_row here changes merged = record {
@@ -126,6 +119,18 @@ IsBandMerging-stay keeps first_a first_b row_a a row_b b merged y row_a' a' row_
       so_far = λ rest merges. was.so_far rest
           (band_stay keeps was.from y row_a a row_b b (last_edges merged) row_a' a' row_b' b' rest range.0 p q was.row_is merges);
     }
+
+-- at the next row at which a band of either begins
+pub IsBandMerging-pushed : (keeps : Bool → Bool → Bool) (first_a first_b : List Band) (row_a : List ℕ) (a : List Band) (row_b : List ℕ) (b : List Band) (merged : List Band) (y : ℕ) (row_a' : List ℕ) (a' : List Band) (row_b' : List ℕ) (b' merged' : List Band) → IsBandMerging keeps first_a first_b row_a a row_b b merged → IsNextTop y a b → PassesTop y row_a a row_a' a' → PassesTop y row_b b row_b' b' → PushesRow keeps y row_a' row_b' merged merged' → IsBandMerging keeps first_a first_b row_a' a' row_b' b' merged'
+IsBandMerging-pushed keeps first_a first_b row_a a row_b b merged y row_a' a' row_b' b' merged' was next p q pushes =
+    elim pushes.pushed [
+      | inl same ↦
+          subst (λ (bands : List Band). IsBandMerging keeps first_a first_b row_a' a' row_b' b' bands) (sym same.1)
+          (IsBandMerging-stay keeps first_a first_b row_a a row_b b merged y row_a' a' row_b' b' pushes.row was next p q pushes.merge same.0)
+      | inr new ↦
+          subst (λ (bands : List Band). IsBandMerging keeps first_a first_b row_a' a' row_b' b' bands) (sym new.1)
+          (IsBandMerging-turn keeps first_a first_b row_a a row_b b merged y row_a' a' row_b' b' (record { top = y; edges = pushes.row }) was next p q refl pushes.merge new.0)
+    ]
 
 -- before the first band
 pub IsBandMerging-begin : (keeps : Bool → Bool → Bool) (a b : List Band) → keeps false false ≡ false → IsBands 1000000 0 [] a → IsBands 1000000 0 [] b → IsBandMerging keeps a b [] a [] b []

@@ -1,11 +1,12 @@
 -- One step of the pass over the edges of two rows.
-use Rattle.std.proofs.Common.{◌≡◌, ℕ, ◌+◌, ◌≤◌, ◌<◌, Bool, true, false, not, List, [], ◌∷◌, ◌++◌, refl, sym, ◌∙◌, arith, subst, ⊎_elim, ◌⊎◌, inl, inr, zero, suc, append_assoc}
+use Rattle.std.proofs.Common.{◌≡◌, ℕ, ◌+◌, ◌≤◌, ◌<◌, Bool, true, false, not, List, [], ◌∷◌, ◌++◌, refl, sym, ◌∙◌, arith, subst, ⊎_elim, ◌⊎◌, inl, inr, zero, suc, append_assoc, append-nil, ap, ap₂, length, take, length-append}
+use Rattle.std.proofs.Math.Seq.{take-append_seam}
 use Rattle.std.proofs.lemmas.Bool.{le-leb, lt-leb, cases_lt, cases_eq, eq-eqb, ne_eqb}
 use Rattle.std.proofs.lemmas.Bool.Decides.{nat_tests}
 use mathlib.Core.Bool.{beq}
 use Rattle.ev_geom.specs.Bands.{IsRow}
 use Rattle.ev_geom.proofs.Rows.{is_inside-before, IsRow-sooner}
-use Rattle.ev_region.specs.RowMerge.{StartsFrom, edges_at, IsNext, Passes, IsRowMerge}
+use Rattle.ev_region.specs.RowMerge.{StartsFrom, edges_at, IsNext, Passes, IsRowMerge, AddsRowMerge, IsKept}
 
 -- a row with no edge before x
 pub IsRow-from : (limit from x : ℕ) (inside : Bool) (edges : List ℕ) → IsRow limit from inside edges → StartsFrom x edges → IsRow limit x inside edges
@@ -120,3 +121,51 @@ IsMerging-stay keeps first_a first_b in_a a in_b b inside merged x in_a' a' in_b
           (merge_stay keeps was.from x in_a a in_b b inside in_a' a' in_b' b' kept rest range.0 p q was.inside_is stays
           (subst (λ (side : Bool). IsRowMerge keeps (x + 1) in_a' a' in_b' b' side rest) (sym stays) merges));
     }
+
+-- after the last edge
+at_end : (keeps : Bool → Bool → Bool) (first_a first_b : List ℕ) (in_a in_b inside : Bool) (row : List ℕ) → keeps false false ≡ false → IsMerging keeps first_a first_b in_a [] in_b [] inside row → IsRowMerge keeps 0 false first_a false first_b false row
+at_end keeps first_a first_b in_a in_b inside row none was =
+    let outside : inside ≡ false = was.inside_is ∙ ap₂ keeps was.a_row was.b_row ∙ none in
+    subst (λ (edges : List ℕ). IsRowMerge keeps 0 false first_a false first_b false edges) (append-nil row) (was.so_far [] (record { row = outside; reads = λ x. was.inside_is }))
+
+-- the same pass, where the edges are added to a list
+pub record IsAdding (keeps : Bool → Bool → Bool) (old : List ℕ) (first_a first_b : List ℕ) (in_a : Bool) (a : List ℕ) (in_b : Bool) (b : List ℕ) (inside : Bool) (list : List ℕ) : Type 0 where
+  pub row : List ℕ
+  pub added : list ≡ old ++ row
+  pub merging : IsMerging keeps first_a first_b in_a a in_b b inside row
+
+pub IsAdding-begin : (keeps : Bool → Bool → Bool) (old a b : List ℕ) → keeps false false ≡ false → IsRow 1000000 0 false a → IsRow 1000000 0 false b → IsAdding keeps old a b false a false b false old
+IsAdding-begin keeps old a b none p q = record {
+  row = [];
+  added = sym (append-nil old);
+  merging = record { from = 0; a_row = p; b_row = q; inside_is = sym none; so_far = λ rest merges. merges };
+}
+
+pub IsAdding-turn : (keeps : Bool → Bool → Bool) (old first_a first_b : List ℕ) (in_a : Bool) (a : List ℕ) (in_b : Bool) (b : List ℕ) (inside : Bool) (list : List ℕ) (x : ℕ) (in_a' : Bool) (a' : List ℕ) (in_b' : Bool) (b' : List ℕ) (kept : Bool) → IsAdding keeps old first_a first_b in_a a in_b b inside list → IsNext x a b → Passes x in_a a in_a' a' → Passes x in_b b in_b' b' → kept ≡ keeps in_a' in_b' → kept ≡ not inside → IsAdding keeps old first_a first_b in_a' a' in_b' b' kept (list ++ x ∷ [])
+IsAdding-turn keeps old first_a first_b in_a a in_b b inside list x in_a' a' in_b' b' kept was next p q kept_is turned = record {
+  row = was.row ++ x ∷ [];
+  added = ap (λ (edges : List ℕ). edges ++ x ∷ []) was.added ∙ append_assoc old was.row (x ∷ []);
+  merging = IsMerging-turn keeps first_a first_b in_a a in_b b inside was.row x in_a' a' in_b' b' kept was.merging next p q kept_is turned;
+}
+
+pub IsAdding-stay : (keeps : Bool → Bool → Bool) (old first_a first_b : List ℕ) (in_a : Bool) (a : List ℕ) (in_b : Bool) (b : List ℕ) (inside : Bool) (list : List ℕ) (x : ℕ) (in_a' : Bool) (a' : List ℕ) (in_b' : Bool) (b' : List ℕ) (kept : Bool) → IsAdding keeps old first_a first_b in_a a in_b b inside list → IsNext x a b → Passes x in_a a in_a' a' → Passes x in_b b in_b' b' → kept ≡ keeps in_a' in_b' → kept ≡ inside → IsAdding keeps old first_a first_b in_a' a' in_b' b' inside list
+IsAdding-stay keeps old first_a first_b in_a a in_b b inside list x in_a' a' in_b' b' kept was next p q kept_is stays = record {
+  row = was.row;
+  added = was.added;
+  merging = IsMerging-stay keeps first_a first_b in_a a in_b b inside was.row x in_a' a' in_b' b' kept was.merging next p q kept_is stays;
+}
+
+pub IsAdding-end : (keeps : Bool → Bool → Bool) (old first_a first_b : List ℕ) (in_a : Bool) (a : List ℕ) (in_b : Bool) (b : List ℕ) (inside : Bool) (list : List ℕ) → keeps false false ≡ false → (a ≡ []) × (b ≡ []) → IsAdding keeps old first_a first_b in_a a in_b b inside list → AddsRowMerge keeps first_a first_b old list
+IsAdding-end keeps old first_a first_b in_a a in_b b inside list none ended was = record {
+  row = was.row;
+  merge = at_end keeps first_a first_b in_a in_b inside was.row none
+      (subst (λ (k : List ℕ). IsMerging keeps first_a first_b in_a [] in_b k inside was.row) ended.1
+      (subst (λ (k : List ℕ). IsMerging keeps first_a first_b in_a k in_b b inside was.row) ended.0 was.merging));
+  added = was.added;
+}
+
+pub IsAdding-kept : (keeps : Bool → Bool → Bool) (old first_a first_b : List ℕ) (in_a : Bool) (a : List ℕ) (in_b : Bool) (b : List ℕ) (inside : Bool) (list list' : List ℕ) → list' ≡ list → IsAdding keeps old first_a first_b in_a a in_b b inside list → IsKept old list'
+IsAdding-kept keeps old first_a first_b in_a a in_b b inside list list' same was = record {
+  front = ap (take (length old)) (same ∙ was.added) ∙ take-append_seam old was.row;
+  longer = omega (arith, ap length (same ∙ was.added), length-append old was.row);
+}

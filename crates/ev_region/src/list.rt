@@ -1,11 +1,12 @@
-// The rectangles of strips.
-ghost use Rattle.std.specs.Prelude.{◌≡◌, ◌<◌, ◌≤◌, false, [], ◌++◌, IfOk, OnOk, pos, sum_by, ◌^◌};
+// The rectangles of bands.
+ghost use Rattle.std.specs.Prelude.{◌≡◌, ◌<◌, ◌≤◌, false, ◌++◌, OnOk, pos, sum_by, ◌^◌};
 ghost use Rattle.ev_geom.specs.Area.{size_of};
-ghost use Rattle.ev_geom.specs.Bands.{IsBands, IsRow, run_rects, rects_of};
+ghost use Rattle.ev_geom.specs.Bands.{IsRow, run_rects, rects_of};
+ghost use Rattle.ev_region.specs.Flat.{bands_of, IsOpen};
 
-use crate::strip::Strip;
+use crate::bands::Rest;
 use ev_geom::Rect;
-use std::alloc::{AllocError, Global};
+use std::alloc::AllocError;
 
 /// Adds a rectangle for each run of the rows from `top` to `bottom`.
 fn push_runs(rects: &mut Vec<Rect>, top: u32, bottom: u32, edges: &[u32]) -> Result<(), AllocError>
@@ -22,20 +23,24 @@ fn push_runs(rects: &mut Vec<Rect>, top: u32, bottom: u32, edges: &[u32]) -> Res
     Ok(())
 }
 
-/// The rectangles of the strips, from top to bottom, and in a strip from left to right.
-pub fn rects_of(alloc: Global, strips: &[Strip]) -> Result<Vec<Rect>, AllocError>
-    requires { IsBands 1000000 0 [] strips.now }
-    ensures { IfOk result (λ rects. rects.items ≡ rects_of strips.now) }
+/// Makes the list that of the rectangles of the bands, from top to bottom, and in a band from left
+/// to right.
+pub(crate) fn list_rects(rects: &mut Vec<Rect>, bands: Rest<'_>) -> Result<(), AllocError>
+    requires { IsOpen bands.row.now bands.start bands.steps.now bands.edges.now }
+    ensures { OnOk result (rects.new.items ≡ rects_of (bands_of bands.entry.start bands.entry.steps.now bands.entry.edges.now)) }
 {
-    let mut rects = Vec::new(alloc);
-    let mut strips = strips;
-    while let [strip, below @ ..] = strips {
+    rects.clear();
+    let edges = bands.edges;
+    let mut start = bands.start;
+    let mut steps = bands.steps;
+    while let [step, below @ ..] = steps {
         if let [next, ..] = below {
-            push_runs(&mut rects, strip.top, next.top, strip.edges.as_slice())?;
+            push_runs(rects, step.top, next.top, &edges[start..step.end])?;
         }
-        strips = below;
+        start = step.end;
+        steps = below;
     }
-    Ok(rects)
+    Ok(())
 }
 
 /// The rectangle at natural places within the limits.
@@ -50,7 +55,7 @@ fn natural_rect(x: u32, y: u32, w: u32, h: u32) -> Rect
 }
 
 /// The number of pixels of the rectangles, where none overlap.
-pub fn total_area(rects: &[Rect]) -> u64
+pub(crate) fn total_area(rects: &[Rect]) -> u64
     requires { sum_by size_of rects.now < 2 ^ 64 }
     ensures { result ≡ sum_by size_of rects.now }
 {
