@@ -1,9 +1,9 @@
 -- Bands in two lists: which edges belong to which, and what adding one band changes.
-use Rattle.std.proofs.Common.{◌≡◌, ℕ, zero, suc, ◌+◌, ◌-◌, ◌≤◌, ◌<◌, List, [], ◌∷◌, ◌++◌, take, drop, get_or, length, leb, Bool, true, false, refl, sym, ap, ap₂, ◌∙◌, arith, subst, length-append, slice_range, inl, inr}
+use Rattle.std.proofs.Common.{◌≡◌, ℕ, zero, suc, ◌+◌, ◌-◌, ◌≤◌, ◌<◌, List, [], ◌∷◌, ◌++◌, take, drop, get_or, length, leb, Bool, true, false, refl, sym, ap, ap₂, ◌∙◌, arith, slice_range, inl, inr}
 use Rattle.std.proofs.lemmas.List.{take-take, drop-take, length-take, length-drop, take_all, take_rest}
-use Rattle.std.proofs.Math.Seq.{take-append_seam, take-length, drop-append_seam}
+use Rattle.std.proofs.Math.Seq.{drop-append_seam}
 use Rattle.std.specs.List.Sorted.{IsPartitionPoint, IsNonDecreasingBy}
-use Rattle.ev_geom.specs.Bands.{Band, IsRow, IsBands, row_at}
+use Rattle.ev_geom.specs.Bands.{Band, IsBands, row_at}
 use Rattle.ev_region.specs.declared.bands.Step.{Step}
 use Rattle.ev_region.specs.RowMerge.{AddsRowMerge, IsKept}
 use Rattle.ev_region.specs.BandMerge.{last_edges, PushesRow}

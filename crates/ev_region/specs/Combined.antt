@@ -1,12 +1,12 @@
 -- Regions made of two sets of pixels.
-use Rattle.std.specs.Prelude.{◌≡◌, ℕ, ◌<◌, Bool, List, [], ℤ, pos, nat_abs, ◌*◌}
+use Rattle.std.specs.Prelude.{◌≡◌, ℕ, ◌<◌, Bool, List, [], ℤ, pos}
 use Rattle.ev_geom.specs.Area.{Area}
 use Rattle.ev_geom.specs.Bands.{has_pixel, Band, is_pixel, IsBands, rects_of, IsBanded}
 
 -- a region's bands, and their rectangles
-pub record IsRegion (strips : List Band) (rects : List Area) : Type 0 where
-  pub canonical : IsBands 1000000 0 [] strips
-  pub listed : rects ≡ rects_of strips
+pub record IsRegion (bands : List Band) (rects : List Area) : Type 0 where
+  pub canonical : IsBands 1000000 0 [] bands
+  pub listed : rects ≡ rects_of bands
 
 -- the rectangles have the pixels that `keeps` chooses by those of the bands a and b
 pub record IsMerged (keeps : Bool → Bool → Bool) (a b : List Band) (rects : List Area) : Type 0 where

@@ -1,4 +1,4 @@
-use Rattle.std.proofs.Common.{arith, ◌<◌, ◌≤◌, ◌≡◌, ap₂, ◌∙◌, length, refl}
+use Rattle.std.proofs.Common.{arith, ◌<◌, ap₂, ◌∙◌, length, refl}
 use Rattle.std.specs.List.{slice_range}
 use Rattle.ev_region.proofs.Flats.{last_run_of, last_run_range}
 use Rattle.ev_region.proofs.bands.last_run.Goals as goal

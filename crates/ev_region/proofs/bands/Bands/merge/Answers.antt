@@ -1,6 +1,5 @@
-use Rattle.std.proofs.Common.{arith, refl}
 use Rattle.ev_region.specs.Combine.{keeps}
-use Rattle.ev_region.proofs.BandMerges.{IsBandMerging-begin, IsBandMerging-pushed, IsBandMerging-end, keeps-none}
+use Rattle.ev_region.proofs.BandMerges.{IsBandMerging-pushed, IsBandMerging-end, keeps-none}
 use Rattle.ev_region.proofs.bands.Bands.merge.Goals as goal
 
 pub loop-y-preserved : goal.loop-y-preserved

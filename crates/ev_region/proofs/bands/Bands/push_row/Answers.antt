@@ -1,7 +1,7 @@
-use Rattle.std.proofs.Common.{rules, ap, ◌∙◌, ◌≡◌, length, sym, subst, refl}
+use Rattle.std.proofs.Common.{rules, ap, ◌≡◌, length, refl}
 use Rattle.std.proofs.lemmas.Bool.{iff_false}
 use Rattle.ev_region.specs.declared.bands.Step.{Step}
-use Rattle.ev_region.specs.Flat.{bands_of, start_at, IsFlat}
+use Rattle.ev_region.specs.Flat.{bands_of}
 use Rattle.ev_region.proofs.Flats.{flat_after, flat_pushed, pushed_none, pushed_one}
 use Rattle.ev_region.proofs.bands.Bands.push_row.Goals as goal
 

@@ -1,9 +1,9 @@
-use Rattle.std.proofs.Common.{ℕ, List, [], false, ◌≡◌, ◌∙◌, sym, ap, subst, refl, leb, rules, length, take}
+use Rattle.std.proofs.Common.{ℕ, List, [], false, ◌∙◌, sym, ap, subst, refl, leb, rules, length, take}
 use Rattle.std.proofs.lemmas.List.Sorted.{IsPartitionPoint-from_clause, IsPartitionedBy-leb}
 use Rattle.ev_geom.specs.Bands.{IsRow, IsBands, row_at}
 use Rattle.ev_region.specs.declared.bands.Step.{Step}
 use Rattle.ev_region.specs.BandMerge.{last_edges}
-use Rattle.ev_region.specs.Flat.{bands_of, IsFlat}
+use Rattle.ev_region.specs.Flat.{bands_of}
 use Rattle.ev_geom.proofs.Banding.{row_at-row}
 use Rattle.ev_region.proofs.Flats.{IsFlat-take, tops_in_order, row_at-count}
 use Rattle.ev_region.proofs.bands.Bands.row_at.Goals as goal
