@@ -1,0 +1,52 @@
+// What stands on a canvas.
+ghost use Rattle.std.specs.Prelude.{◌≡◌, IfOk};
+
+use crate::{Content, Name, NoMemory};
+use ev_argb::Pixel;
+use ev_geom::Rect;
+use ev_state::Copied;
+
+/// How an object's pixels change what lies below (docs/CANVAS.md, "Painting").
+#[derive(Clone, Copy, Debug, PartialEq, Eq)]
+pub enum Op {
+    /// They are painted over it.
+    Blend,
+    /// They take its place.
+    Copy,
+}
+
+/// One object (docs/CANVAS.md, "Objects"). Its clipper and its parent go by their ids.
+#[derive(Drop)]
+pub struct Object {
+    pub id: u64,
+    pub name: Name,
+    /// In pixels of the canvas.
+    pub rect: Rect,
+    /// Its own visibility. What stands over it may hide it as well.
+    pub shown: bool,
+    pub color: Pixel,
+    pub op: Op,
+    /// From -32,768 to 32,767; higher layers lie above lower ones.
+    pub layer: i32,
+    pub clipper: Option<u64>,
+    pub parent: Option<u64>,
+    pub content: Content,
+}
+
+impl Copied for Object {
+    fn copied(&self) -> Result<Object, NoMemory> {
+        let content = self.content.copied()?;
+        Ok(Object {
+            id: self.id,
+            name: self.name,
+            rect: self.rect,
+            shown: self.shown,
+            color: self.color,
+            op: self.op,
+            layer: self.layer,
+            clipper: self.clipper,
+            parent: self.parent,
+            content,
+        })
+    }
+}
