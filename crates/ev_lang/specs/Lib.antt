@@ -1,0 +1,7 @@
+pub mod Words
+pub mod Classes
+pub mod Args
+pub mod Verbs
+pub mod Value
+pub mod Lines
+pub mod Parts

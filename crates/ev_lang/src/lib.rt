@@ -1,0 +1,16 @@
+//! The language of scripts: what a line says, and the text of each reply (docs/SCRIPT.md).
+#![tactic(auto)]
+
+mod args;
+mod causes;
+mod classes;
+mod draft;
+mod line;
+mod reply;
+mod row;
+mod shown;
+mod verb;
+mod words;
+
+pub use line::{LONGEST_LINE, Line, read_line};
+pub use reply::write_reply;
