@@ -1,6 +1,6 @@
 -- Rows of pixels in the log.
-use Rattle.std.proofs.Common.{◌≡◌, ℕ, zero, suc, ◌+◌, ◌<◌, Option, List, [], ◌∷◌, ◌++◌, length, get_or, take, drop, sym, ap, subst, refl, ◌∙◌, append_assoc, arith, add-one, flat_map}
-use Rattle.std.proofs.lemmas.List.{take_more, append-nil, take-append-drop}
+use Rattle.std.proofs.Common.{◌≡◌, ℕ, zero, suc, ◌+◌, ◌<◌, ◌≤◌, Option, List, [], ◌∷◌, ◌++◌, length, get_or, take, drop, sym, ap, subst, refl, ◌∙◌, append_assoc, arith, add-one, flat_map}
+use Rattle.std.proofs.lemmas.List.{take_more, take_all, append-nil, take-append-drop}
 use Rattle.std.proofs.lemmas.Grind.{flat_map-append}
 use Rattle.std.proofs.lemmas.Bool.Decides.{nat_tests}
 use Rattle.ev_argb.specs.Argb.{Argb}
@@ -11,7 +11,6 @@ use Rattle.ev_lang.specs.Parts.{place_text, IsLaid}
 -- all columns but the first have a space
 later : (x : ℕ) (p : Argb) → 0 < x → place_text x p ≡ 32 ∷ pixel_text p
 later x p above = grind (arith, nat_tests)
-
 
 -- one more pixel of a row
 pub pixels_more : (ps : List Argb) (i : ℕ) (d : Argb) → i < length ps → pixels_text (take (i + 1) ps) ≡ pixels_text (take i ps) ++ place_text i (get_or ps i d)
@@ -58,15 +57,18 @@ laid_on {next = next} more first second = record {
       ∙ append_assoc (first.sent ++ second.sent) next more;
 }
 
--- what is laid out is written, with an end
-pub laid_whole : {a b c : Option (List ℕ)} {draft text end : List ℕ} → IsLaid a b draft text → GrowsBy b c (draft ++ end) → GrowsBy a c (text ++ end)
-laid_whole {a = a} {c = c} {draft = draft} {end = end} laid whole =
-    let joined = sym (append_assoc laid.sent draft end) ∙ ap (λ t. t ++ end) (sym laid.split) in
-    subst (λ all. GrowsBy a c all) joined (grows_on laid.grows whole)
+-- one more pixel of a row is laid out
+pub row_on : {a b c : Option (List ℕ)} {draft next : List ℕ} (ps : List Argb) (i : ℕ) (p : Argb) (new : List ℕ) → i < length ps → p ≡ get_or ps i p → new ≡ next ++ place_text i p → IsLaid a b draft (pixels_text (take i ps)) → IsLaid b c next draft → IsLaid a c new (pixels_text (take (i + 1) ps))
+row_on {a = a} {c = c} {next = next} ps i p new below is more first second =
+    let laid = laid_on (place_text i p) first second in
+    let text : pixels_text (take i ps) ++ place_text i p ≡ pixels_text (take (i + 1) ps) = ap (λ q. pixels_text (take i ps) ++ place_text i q) is ∙ sym (pixels_more ps i p below) in
+    subst (λ draft. IsLaid a c draft (pixels_text (take (i + 1) ps))) (sym more) (subst (λ all. IsLaid a c (next ++ place_text i p) all) text laid)
 
-pub laid_part : {a b c : Option (List ℕ)} {draft text end : List ℕ} → IsLaid a b draft text → GrowsPart b c (draft ++ end) → GrowsPart a c (text ++ end)
-laid_part {a = a} {c = c} {draft = draft} {end = end} laid part =
-    let joined = sym (append_assoc laid.sent draft end) ∙ ap (λ t. t ++ end) (sym laid.split) in
+-- a whole row is laid out, and of it and its end a front is written
+pub row_end : {a b c : Option (List ℕ)} {draft : List ℕ} (ps : List Argb) (i : ℕ) (end piece : List ℕ) → length ps ≤ i → piece ≡ draft ++ end → IsLaid a b draft (pixels_text (take i ps)) → GrowsPart b c piece → GrowsPart a c (pixels_text ps ++ end)
+row_end {a = a} {b = b} {c = c} {draft = draft} ps i end piece all is laid part =
+    let whole : pixels_text ps ≡ laid.sent ++ draft = ap pixels_text (sym (take_all i ps all)) ∙ laid.split in
+    let joined : laid.sent ++ piece ≡ pixels_text ps ++ end = ap (λ t. laid.sent ++ t) is ∙ sym (append_assoc laid.sent draft end) ∙ ap (λ t. t ++ end) (sym whole) in
     subst (λ all. GrowsPart a c all) joined (whole_then_part laid.grows part)
 
 -- a row whose first pixels are laid out is cut off there

@@ -5,7 +5,7 @@ use Rattle.ev_port.specs.Told.{GrowsBy}
 use Rattle.ev_model.specs.Text.{spaced, pixel_text}
 
 -- the first line of a frame that was shown
-abbrev pub heading_text : ℕ → ℕ → ℕ → ℕ → List ℕ
+unfoldable pub heading_text : ℕ → ℕ → ℕ → ℕ → List ℕ
 heading_text n w h updates = codes "shown" ++ spaced n ++ spaced w ++ spaced h ++ spaced updates ++ 10 ∷ []
 
 -- the pixel in column x, with a space before it in all columns but the first

@@ -5,6 +5,7 @@ use Rattle.ev_model.specs.declared.command.Edit.{Edit}
 use Rattle.ev_model.specs.declared.command.Edit.TheVariants as edit
 use Rattle.ev_model.specs.declared.command.Command.{Command}
 use Rattle.ev_model.specs.declared.command.Command.TheVariants as command
+use Rattle.ev_model.specs.Limits.{IsCommand}
 use Rattle.ev_lang.specs.declared.line.Line.{Line}
 use Rattle.ev_lang.specs.declared.line.Line.TheVariants as says
 
@@ -23,3 +24,8 @@ command_by_value other = other
 abbrev pub by_value : Line → Line
 by_value (says.Command order) = says.Command (command_by_value order)
 by_value other = other
+
+-- what a line says keeps the limits of texts
+abbrev pub IsLine : Line → Type 0
+IsLine (says.Command order) = IsCommand order
+IsLine other = Unit {0}

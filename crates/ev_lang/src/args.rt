@@ -1,6 +1,7 @@
 // What follows the first word of a command.
-ghost use Rattle.std.specs.Prelude.{◌≡◌, Ok};
+ghost use Rattle.std.specs.Prelude.{◌≡◌, Ok, IfOk};
 ghost use Rattle.std.specs.Result.{result_map_both};
+ghost use Rattle.ev_model.specs.Glyphs.{IsText};
 ghost use Rattle.ev_lang.specs.Words.{words};
 ghost use Rattle.ev_lang.specs.Args.{counted, no_words, one_number, pair, quad, two_numbers, four_numbers, one_name, two_names, name_and_number, name_and_two, name_and_four, name_and_op, name_and_switch, named_text, name_and_text};
 
@@ -162,13 +163,17 @@ pub fn name_and_switch(args: &[u8]) -> Result<(Name, bool), BadLine>
 /// A name, and all that stands behind one space.
 #[tactic(auto, unfolding(crate::specs::Args::name_and_text))]
 pub fn name_and_text(rest: &[u8]) -> Result<(Name, &[u8]), BadLine>
-    ensures { result_map_both (λ found. (found.0, found.1.now)) (λ fault. fault) result ≡ name_and_text rest.now }
+    requires { IsText rest.now }
+    ensures read { result_map_both (λ found. (found.0, found.1.now)) (λ fault. fault) result ≡ name_and_text rest.now }
+    ensures within { IfOk result (λ found. IsText found.1.now) }
 {
     named_text(skip_spaces(rest))
 }
 
 fn named_text(text: &[u8]) -> Result<(Name, &[u8]), BadLine>
-    ensures { result_map_both (λ found. (found.0, found.1.now)) (λ fault. fault) result ≡ named_text text.now }
+    requires { IsText text.now }
+    ensures read { result_map_both (λ found. (found.0, found.1.now)) (λ fault. fault) result ≡ named_text text.now }
+    ensures within { IfOk result (λ found. IsText found.1.now) }
 {
     if text.is_empty() {
         return Err(BadLine::Count);

@@ -2,7 +2,8 @@
 ghost use Rattle.std.specs.Prelude.{◌≡◌};
 ghost use Rattle.std.specs.List.{list_all};
 ghost use Rattle.ev_lang.specs.Words.{words};
-ghost use Rattle.ev_lang.specs.Value.{by_value, text};
+ghost use Rattle.ev_model.specs.Glyphs.{IsText};
+ghost use Rattle.ev_lang.specs.Value.{by_value, text, IsLine};
 ghost use Rattle.ev_model.specs.declared.command.Command.TheVariants as order;
 ghost use Rattle.ev_model.specs.declared.command.Edit.TheVariants as edit;
 ghost use Rattle.ev_lang.specs.Args.{no_words, one_number, two_numbers, four_numbers, one_name, two_names, name_and_number, name_and_two, name_and_four, name_and_op, name_and_switch, name_and_text};
@@ -34,7 +35,8 @@ pub enum Line<'a> {
 /// What a line says (docs/SCRIPT.md, "Lines"). It may be any bytes.
 #[tactic(auto, unfolding(crate::specs::Lines::line_of))]
 pub fn read_line(line: &[u8]) -> Line<'_>
-    ensures { by_value result ≡ line_of line.now }
+    ensures says { by_value result ≡ line_of line.now }
+    ensures within { IsLine result }
 {
     if line.len() > LONGEST_LINE {
         Line::Bad(BadLine::Long)
@@ -45,15 +47,19 @@ pub fn read_line(line: &[u8]) -> Line<'_>
     }
 }
 
+// Whether all bytes are characters.
+#[tactic(auto, using(crate::proofs::Texts::are_characters))]
 fn is_text(line: &[u8]) -> bool
-    ensures { result ≡ list_all is_text_byte line.now }
+    ensures test { result ≡ list_all is_text_byte line.now }
 {
     line.iter().all(|byte| matches!(*byte, b' '..=b'~'))
 }
 
 // A line from its first word on.
 fn word_line(line: &[u8]) -> Line<'_>
-    ensures { by_value result ≡ word_line line.now }
+    requires { IsText line.now }
+    ensures says { by_value result ≡ word_line line.now }
+    ensures within { IsLine result }
 {
     match line {
         [] => Line::Empty,
@@ -67,7 +73,9 @@ fn word_line(line: &[u8]) -> Line<'_>
 
 // What stands behind a first word.
 fn verb_line(verb: Option<Verb>, rest: &[u8]) -> Line<'_>
-    ensures { by_value result ≡ verb_line verb rest.now }
+    requires { IsText rest.now }
+    ensures says { by_value result ≡ verb_line verb rest.now }
+    ensures within { IsLine result }
 {
     match verb {
         None => Line::Bad(BadLine::Word),
@@ -77,7 +85,9 @@ fn verb_line(verb: Option<Verb>, rest: &[u8]) -> Line<'_>
 
 #[tactic(auto, unfolding(crate::specs::Lines::command_line))]
 fn command_line(verb: Verb, rest: &[u8]) -> Line<'_>
-    ensures { by_value result ≡ command_line verb rest.now }
+    requires { IsText rest.now }
+    ensures says { by_value result ≡ command_line verb rest.now }
+    ensures within { IsLine result }
 {
     match verb {
         Verb::Alone(which) => alone_line(which, rest),
@@ -96,7 +106,8 @@ fn command_line(verb: Verb, rest: &[u8]) -> Line<'_>
 }
 
 fn alone_line(which: Alone, rest: &[u8]) -> Line<'_>
-    ensures { by_value result ≡ said (no_words (words rest.now)) (λ _. of_alone which) }
+    ensures says { by_value result ≡ said (no_words (words rest.now)) (λ _. of_alone which) }
+    ensures within { IsLine result }
 {
     match no_words(rest) {
         Ok(()) => Line::Command(which.command()),
@@ -105,7 +116,8 @@ fn alone_line(which: Alone, rest: &[u8]) -> Line<'_>
 }
 
 fn one_name_line(which: OneName, rest: &[u8]) -> Line<'_>
-    ensures { by_value result ≡ said (one_name (words rest.now)) (λ name. of_name which name) }
+    ensures says { by_value result ≡ said (one_name (words rest.now)) (λ name. of_name which name) }
+    ensures within { IsLine result }
 {
     match one_name(rest) {
         Ok(name) => Line::Command(which.command(name)),
@@ -114,7 +126,8 @@ fn one_name_line(which: OneName, rest: &[u8]) -> Line<'_>
 }
 
 fn two_names_line(which: TwoNames, rest: &[u8]) -> Line<'_>
-    ensures { by_value result ≡ said (two_names (words rest.now)) (λ p. of_names which p.0 p.1) }
+    ensures says { by_value result ≡ said (two_names (words rest.now)) (λ p. of_names which p.0 p.1) }
+    ensures within { IsLine result }
 {
     match two_names(rest) {
         Ok((name, other)) => Line::Command(which.command(name, other)),
@@ -123,7 +136,8 @@ fn two_names_line(which: TwoNames, rest: &[u8]) -> Line<'_>
 }
 
 fn name_and_two_line(which: NameAndTwo, rest: &[u8]) -> Line<'_>
-    ensures { by_value result ≡ said (name_and_two (words rest.now)) (λ p. of_two which p.0 p.1 p.2) }
+    ensures says { by_value result ≡ said (name_and_two (words rest.now)) (λ p. of_two which p.0 p.1 p.2) }
+    ensures within { IsLine result }
 {
     match name_and_two(rest) {
         Ok((name, m, n)) => Line::Command(which.command(name, m, n)),
@@ -132,7 +146,8 @@ fn name_and_two_line(which: NameAndTwo, rest: &[u8]) -> Line<'_>
 }
 
 fn name_and_four_line(which: NameAndFour, rest: &[u8]) -> Line<'_>
-    ensures { by_value result ≡ said (name_and_four (words rest.now)) (λ p. of_four which p.0 p.1 p.2 p.3 p.4) }
+    ensures says { by_value result ≡ said (name_and_four (words rest.now)) (λ p. of_four which p.0 p.1 p.2 p.3 p.4) }
+    ensures within { IsLine result }
 {
     match name_and_four(rest) {
         Ok((name, k, l, m, n)) => Line::Command(which.command(name, k, l, m, n)),
@@ -141,7 +156,8 @@ fn name_and_four_line(which: NameAndFour, rest: &[u8]) -> Line<'_>
 }
 
 fn op_line(rest: &[u8]) -> Line<'_>
-    ensures { by_value result ≡ said (name_and_op (words rest.now)) (λ p. order.Edit (edit.SetOp p.0 p.1)) }
+    ensures says { by_value result ≡ said (name_and_op (words rest.now)) (λ p. order.Edit (edit.SetOp p.0 p.1)) }
+    ensures within { IsLine result }
 {
     match name_and_op(rest) {
         Ok((name, op)) => Line::Command(Command::Edit(Edit::SetOp { name, op })),
@@ -150,7 +166,8 @@ fn op_line(rest: &[u8]) -> Line<'_>
 }
 
 fn center_line(rest: &[u8]) -> Line<'_>
-    ensures { by_value result ≡ said (name_and_switch (words rest.now)) (λ p. order.Edit (edit.Center p.0 p.1)) }
+    ensures says { by_value result ≡ said (name_and_switch (words rest.now)) (λ p. order.Edit (edit.Center p.0 p.1)) }
+    ensures within { IsLine result }
 {
     match name_and_switch(rest) {
         Ok((name, on)) => Line::Command(Command::Edit(Edit::Center { name, on })),
@@ -159,7 +176,8 @@ fn center_line(rest: &[u8]) -> Line<'_>
 }
 
 fn layer_line(rest: &[u8]) -> Line<'_>
-    ensures { by_value result ≡ said (name_and_number (words rest.now)) (λ p. order.Edit (edit.Layer p.0 p.1)) }
+    ensures says { by_value result ≡ said (name_and_number (words rest.now)) (λ p. order.Edit (edit.Layer p.0 p.1)) }
+    ensures within { IsLine result }
 {
     match name_and_number(rest) {
         Ok((name, layer)) => Line::Command(Command::Edit(Edit::Layer { name, layer })),
@@ -168,7 +186,9 @@ fn layer_line(rest: &[u8]) -> Line<'_>
 }
 
 fn say_line(rest: &[u8]) -> Line<'_>
-    ensures { by_value result ≡ said (name_and_text rest.now) (λ p. order.Edit (edit.Say p.0 (text p.1))) }
+    requires { IsText rest.now }
+    ensures says { by_value result ≡ said (name_and_text rest.now) (λ p. order.Edit (edit.Say p.0 (text p.1))) }
+    ensures within { IsLine result }
 {
     match name_and_text(rest) {
         Ok((name, text)) => Line::Command(Command::Edit(Edit::Say { name, text })),
@@ -177,7 +197,8 @@ fn say_line(rest: &[u8]) -> Line<'_>
 }
 
 fn size_line(rest: &[u8]) -> Line<'_>
-    ensures { by_value result ≡ said (two_numbers (words rest.now)) (λ p. order.Edit (edit.Size p.0 p.1)) }
+    ensures says { by_value result ≡ said (two_numbers (words rest.now)) (λ p. order.Edit (edit.Size p.0 p.1)) }
+    ensures within { IsLine result }
 {
     match two_numbers(rest) {
         Ok((w, h)) => Line::Command(Command::Edit(Edit::Size { w, h })),
@@ -186,7 +207,8 @@ fn size_line(rest: &[u8]) -> Line<'_>
 }
 
 fn damage_line(rest: &[u8]) -> Line<'_>
-    ensures { by_value result ≡ said (four_numbers (words rest.now)) (λ p. order.Damage p.0 p.1 p.2 p.3) }
+    ensures says { by_value result ≡ said (four_numbers (words rest.now)) (λ p. order.Damage p.0 p.1 p.2 p.3) }
+    ensures within { IsLine result }
 {
     match four_numbers(rest) {
         Ok((x, y, w, h)) => Line::Command(Command::Damage { x, y, w, h }),
@@ -195,7 +217,8 @@ fn damage_line(rest: &[u8]) -> Line<'_>
 }
 
 fn step_line(rest: &[u8]) -> Line<'_>
-    ensures { by_value result ≡ said (one_number (words rest.now)) (λ k. order.Step k) }
+    ensures says { by_value result ≡ said (one_number (words rest.now)) (λ k. order.Step k) }
+    ensures within { IsLine result }
 {
     match one_number(rest) {
         Ok(k) => Line::Command(Command::Step { k }),

@@ -36,7 +36,7 @@ fn make_room<K: Sink>(sink: &mut K, draft: &mut Draft<ROW>) -> Result<(), Failed
     ensures err { OnErr result (GrowsPart (K.written sink.old) (K.written sink.new) draft.old) }
     ensures cause { HasCause (K.faults sink.old) (K.faults sink.new) result }
 {
-    if draft.len() + 10 <= ROW {
+    if draft.len() <= ROW - 10 {
         return Ok(());
     }
     sink.write(draft.as_slice())?;

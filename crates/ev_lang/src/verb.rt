@@ -1,5 +1,6 @@
 // The first words of commands.
 ghost use Rattle.std.specs.Prelude.{◌≡◌};
+ghost use Rattle.ev_model.specs.Limits.{IsCommand};
 ghost use Rattle.ev_lang.specs.Value.{command_by_value};
 ghost use Rattle.ev_lang.specs.Verbs.{object_verb, order_verb, content_verb, frame_verb, verb_of, of_alone, of_name, of_names, of_two, of_four};
 
@@ -220,7 +221,8 @@ impl Alone {
     /// The whole command.
     #[tactic(auto, unfolding(crate::specs::Verbs::of_alone))]
     pub fn command<'a>(self) -> Command<'a>
-        ensures { command_by_value result ≡ of_alone self }
+        ensures command { command_by_value result ≡ of_alone self }
+        ensures within { IsCommand result }
     {
         match self {
             Alone::Serve => Command::Serve,
@@ -239,7 +241,8 @@ impl OneName {
     /// The command with this name.
     #[tactic(auto, unfolding(crate::specs::Verbs::of_name))]
     pub fn command<'a>(self, name: Name) -> Command<'a>
-        ensures { command_by_value result ≡ of_name self name }
+        ensures command { command_by_value result ≡ of_name self name }
+        ensures within { IsCommand result }
     {
         match self {
             OneName::Rect => Command::Edit(Edit::Make {
@@ -277,7 +280,8 @@ impl TwoNames {
     /// The command with these names.
     #[tactic(auto, unfolding(crate::specs::Verbs::of_names))]
     pub fn command<'a>(self, name: Name, other: Name) -> Command<'a>
-        ensures { command_by_value result ≡ of_names self name other }
+        ensures command { command_by_value result ≡ of_names self name other }
+        ensures within { IsCommand result }
     {
         Command::Edit(match self {
             TwoNames::Above => Edit::Place {
@@ -305,7 +309,8 @@ impl NameAndTwo {
     /// The command with this name and these numbers.
     #[tactic(auto, unfolding(crate::specs::Verbs::of_two))]
     pub fn command<'a>(self, name: Name, m: i64, n: i64) -> Command<'a>
-        ensures { command_by_value result ≡ of_two self name m n }
+        ensures command { command_by_value result ≡ of_two self name m n }
+        ensures within { IsCommand result }
     {
         match self {
             NameAndTwo::Move => Command::Edit(Edit::Move { name, x: m, y: n }),
@@ -318,7 +323,8 @@ impl NameAndFour {
     /// The command with this name and these numbers.
     #[tactic(auto, unfolding(crate::specs::Verbs::of_four))]
     pub fn command<'a>(self, name: Name, k: i64, l: i64, m: i64, n: i64) -> Command<'a>
-        ensures { command_by_value result ≡ of_four self name k l m n }
+        ensures command { command_by_value result ≡ of_four self name k l m n }
+        ensures within { IsCommand result }
     {
         match self {
             NameAndFour::Color => Command::Edit(Edit::Color {

@@ -1,10 +1,13 @@
 // Words of a line, one after another.
 ghost use Rattle.std.specs.Prelude.{◌≡◌, ◌==◌, length, option_map};
+ghost use Rattle.ev_model.specs.Glyphs.{IsText};
 ghost use Rattle.ev_lang.specs.Words.{words, skipped, first_word, after_word, after_one, uncons};
 
 /// A line from its first word on.
+#[tactic(auto, using(crate::proofs::Texts::dropped))]
 pub fn skip_spaces(line: &[u8]) -> &[u8]
-    ensures { result.now ≡ skipped line.now }
+    ensures line { result.now ≡ skipped line.now }
+    ensures within { IsText line.now → IsText result.now }
 {
     for (i, c) in line.iter().enumerate() {
         if *c != b' ' {
@@ -15,9 +18,11 @@ pub fn skip_spaces(line: &[u8]) -> &[u8]
 }
 
 /// The characters up to a space, and what stands from there on.
+#[tactic(auto, using(crate::proofs::Texts::dropped))]
 pub fn split_word(line: &[u8]) -> (&[u8], &[u8])
     ensures word { result.0.now ≡ first_word line.now }
     ensures rest { result.1.now ≡ after_word line.now }
+    ensures within { IsText line.now → IsText result.1.now }
 {
     for (i, c) in line.iter().enumerate() {
         if *c == b' ' {
@@ -28,8 +33,10 @@ pub fn split_word(line: &[u8]) -> (&[u8], &[u8])
 }
 
 /// All but one character.
+#[tactic(auto, using(crate::proofs::Texts::dropped))]
 pub fn skip_one(line: &[u8]) -> &[u8]
-    ensures { result.now ≡ after_one line.now }
+    ensures line { result.now ≡ after_one line.now }
+    ensures within { IsText line.now → IsText result.now }
 {
     match line {
         [] => line,
