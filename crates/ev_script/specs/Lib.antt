@@ -1,0 +1,13 @@
+pub mod Name
+pub mod Words
+pub mod Lines
+pub mod Edits
+pub mod Paint
+pub mod Machine
+pub mod Text
+pub mod Outside
+pub mod Session
+pub mod Play
+pub mod Frames
+pub mod Status
+pub mod Reading
