@@ -7,7 +7,7 @@ use Rattle.ev_argb.specs.Grid.{Grid, SetsPixel, IsWhole, pixel_at, with_pixel}
 use Rattle.ev_geom.specs.Area.{holds, is_within}
 use Rattle.ev_model.specs.Look.{Look}
 use Rattle.ev_model.specs.Paint.{painted, put_sample, sample_at}
-use Rattle.ev_model.specs.Painted.{Remakes, RemakesRowsBelow, RemakesRow, RemakesColumnsBelow}
+use Rattle.ev_model.specs.Remade.{Remakes, RemakesRowsBelow, RemakesRow, RemakesColumnsBelow}
 
 within : (from len at : ℤ) → from ≤ℤ at → at <ℤ (from +ℤ len) → is_within from len at ≡ true
 within from len at low high =

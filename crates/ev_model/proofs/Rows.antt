@@ -1,5 +1,5 @@
 -- The rows of a picture of which each pixel is known.
-use Rattle.std.proofs.Common.{◌≡◌, ℕ, suc, zero, ◌+◌, ◌<◌, ◌≤◌, List, ◌∷◌, ◌++◌, map, refl, ap, ap₂, ◌∙◌, arith}
+use Rattle.std.proofs.Common.{◌≡◌, ℕ, suc, zero, ◌+◌, ◌<◌, List, ◌∷◌, ◌++◌, map, refl, ap, ap₂, ◌∙◌, arith}
 use Rattle.std.specs.Prelude.{flat_map}
 use Rattle.std.specs.List.{range_with_len}
 use Rattle.ev_argb.specs.Grid.{Grid, pixel_at, row_of}
@@ -20,5 +20,5 @@ pub redrawn_rows : (s : Stage) (grid : Grid) → IsRedrawn s grid → flat_map (
 redrawn_rows s grid is =
     ap (λ (h : ℕ). flat_map (row_of grid) (range_with_len 0 h)) is.height
     ∙ flat_map_range (row_of grid) (λ y. map (λ x. paint s x y) (range_with_len 0 s.w)) 0 s.h (λ y row.
-        ap (λ (w : ℕ). map (λ x. pixel_at grid x y) (range_with_len 0 w)) is.width
-        ∙ map_range (λ x. pixel_at grid x y) (λ x. paint s x y) 0 s.w (λ x column. is.pixels x y (omega arith) (omega arith)))
+    ap (λ (w : ℕ). map (λ x. pixel_at grid x y) (range_with_len 0 w)) is.width
+    ∙ map_range (λ x. pixel_at grid x y) (λ x. paint s x y) 0 s.w (λ x column. is.pixels x y (omega arith) (omega arith)))

@@ -18,5 +18,5 @@ pub mod Text
 pub mod Examples
 pub mod Logs
 pub mod Walk
-pub mod Painted
+pub mod Remade
 pub mod Small

@@ -5,7 +5,7 @@ ghost use Rattle.ev_argb.specs.Grid.{IsWhole, row_of};
 ghost use Rattle.ev_model.specs.Stage.{stage};
 ghost use Rattle.ev_model.specs.Look.{look};
 ghost use Rattle.ev_model.specs.Walk.{look_as, IsOnCanvas};
-ghost use Rattle.ev_model.specs.Painted.{cleared, Remakes, RemakesRow};
+ghost use Rattle.ev_model.specs.Remade.{cleared, Remakes, RemakesRow};
 ghost use Rattle.ev_model.specs.Paint.{IsRedrawn, redrawn, painted, painted_by, put_sample, sample_at, put};
 ghost use Rattle.ev_model.specs.Limits.{IsObject, AreObjects};
 

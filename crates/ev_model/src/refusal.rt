@@ -2,7 +2,7 @@
 ghost use Rattle.std.specs.Prelude.{◌≡◌};
 ghost use Rattle.ev_model.specs.declared.refusal.Refusal.TheVariants.{NoMemory};
 
-use std::alloc::AllocFailed;
+use std::alloc::{AllocError, AllocFailed};
 
 /// Why a line is no command (docs/SCRIPT.md, "Lines"). The first that holds is told.
 #[derive(Clone, Copy, Debug, PartialEq, Eq)]
@@ -56,6 +56,14 @@ pub enum Refusal {
     NoFrame = 15,
     /// There is no room for what the command needs.
     NoMemory = 16,
+}
+
+impl From<AllocError> for Refusal {
+    ghost from_gives = { λ _ e. e ≡ NoMemory };
+
+    fn from(_: AllocError) -> Refusal {
+        Refusal::NoMemory
+    }
 }
 
 impl<T: Drop> From<AllocFailed<T>> for Refusal {

@@ -1,6 +1,6 @@
 use Rattle.std.proofs.Common.{◌≤◌, arith}
 use Rattle.ev_argb.specs.Argb.{clear}
-use Rattle.ev_model.specs.Painted.{cleared}
+use Rattle.ev_model.specs.Remade.{cleared}
 use Rattle.ev_model.proofs.Painting.{row_more, rows_done, none_past}
 use Rattle.ev_model.proofs.redraw.clear.Goals as goal
 

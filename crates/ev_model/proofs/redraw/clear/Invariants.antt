@@ -1,4 +1,4 @@
-use Rattle.ev_model.specs.Painted.{cleared, RemakesRowsBelow}
+use Rattle.ev_model.specs.Remade.{cleared, RemakesRowsBelow}
 use Rattle.ev_model.proofs.redraw.clear.Given as goal
 
 abbrev pub invariant-loop-y : goal.invariant-loop-y

@@ -1,6 +1,6 @@
 use Rattle.std.proofs.Common.{◌<◌, ◌≤◌, refl, arith}
 use Rattle.ev_argb.specs.Argb.{clear}
-use Rattle.ev_model.specs.Painted.{cleared}
+use Rattle.ev_model.specs.Remade.{cleared}
 use Rattle.ev_model.proofs.Painting.{column_more, row_done, none_past}
 use Rattle.ev_model.proofs.redraw.clear_row.Goals as goal
 

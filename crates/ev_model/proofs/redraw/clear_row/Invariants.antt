@@ -1,4 +1,4 @@
-use Rattle.ev_model.specs.Painted.{cleared, RemakesColumnsBelow}
+use Rattle.ev_model.specs.Remade.{cleared, RemakesColumnsBelow}
 use Rattle.ev_model.proofs.redraw.clear_row.Given as goal
 
 abbrev pub invariant-loop-x : goal.invariant-loop-x

@@ -4,7 +4,7 @@ use Rattle.std.proofs.Math.Seq.{take-length}
 use Rattle.ev_state.specs.Held.{Held}
 use Rattle.ev_model.specs.Stage.{stage, values}
 use Rattle.ev_model.specs.Limits.{IsObject, AreObjects}
-use Rattle.ev_model.specs.Painted.{IsPaintedBy}
+use Rattle.ev_model.specs.Remade.{IsPaintedBy}
 use Rattle.ev_model.specs.declared.object.Object.{Object}
 use Rattle.ev_model.proofs.Rows.{redrawn_rows}
 use Rattle.ev_model.proofs.redraw.full_redraw.Goals as goal

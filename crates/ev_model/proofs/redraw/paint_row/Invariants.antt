@@ -1,5 +1,5 @@
 use Rattle.ev_model.specs.Paint.{painted}
-use Rattle.ev_model.specs.Painted.{RemakesColumnsBelow}
+use Rattle.ev_model.specs.Remade.{RemakesColumnsBelow}
 use Rattle.ev_model.specs.Walk.{look_as}
 use Rattle.ev_model.proofs.redraw.paint_row.Given as goal
 
