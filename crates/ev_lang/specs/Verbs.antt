@@ -4,7 +4,7 @@ use Rattle.std.specs.Str.{bytes_eq}
 use Rattle.ev_model.specs.declared.command.Command.{Command}
 use Rattle.ev_model.specs.declared.command.Command.TheVariants.{Edit, Damage, Preload, Load, Cancel, Serve, Start, Step, Poll, Wait, Render, Dump, Sum, Stats}
 use Rattle.ev_model.specs.declared.command.Edit.TheVariants as edit
-use Rattle.ev_model.specs.declared.content.Kind.TheVariants as kind
+use Rattle.ev_model.specs.declared.content.Kind.TheVariants as kinds
 use Rattle.ev_lang.specs.declared.verb.Verb.{Verb}
 use Rattle.ev_lang.specs.declared.verb.Verb.TheVariants as verb
 use Rattle.ev_lang.specs.declared.verb.Alone.{Alone}
@@ -27,10 +27,10 @@ object_verb word =
     else if bytes_eq word (codes "hide") then Some (verb.OneName one.Hide)
     else if bytes_eq word (codes "color") then Some (verb.NameAndFour four.Color)
     else if bytes_eq word (codes "op") then Some verb.Op
-    else if bytes_eq word (codes "rect") then Some (verb.OneName one.Rect)
-    else if bytes_eq word (codes "image") then Some (verb.OneName one.Image)
-    else if bytes_eq word (codes "text") then Some (verb.OneName one.Text)
-    else if bytes_eq word (codes "smart") then Some (verb.OneName one.Smart)
+    else if bytes_eq word (codes "rect") then Some (verb.OneName (one.Make kinds.Rect))
+    else if bytes_eq word (codes "image") then Some (verb.OneName (one.Make kinds.Image))
+    else if bytes_eq word (codes "text") then Some (verb.OneName (one.Make kinds.Text))
+    else if bytes_eq word (codes "smart") then Some (verb.OneName (one.Make kinds.Smart))
     else if bytes_eq word (codes "delete") then Some (verb.OneName one.Delete)
     else None
 
@@ -101,10 +101,7 @@ of_alone alone.Stats = Stats
 
 -- commands of one object
 unfoldable pub of_name : OneName → List ℕ → Command
-of_name one.Rect name = Edit (edit.Make name kind.Rect)
-of_name one.Image name = Edit (edit.Make name kind.Image)
-of_name one.Text name = Edit (edit.Make name kind.Text)
-of_name one.Smart name = Edit (edit.Make name kind.Smart)
+of_name (one.Make kind) name = Edit (edit.Make name kind)
 of_name one.Delete name = Edit (edit.Delete name)
 of_name one.Show name = Edit (edit.Show name true)
 of_name one.Hide name = Edit (edit.Show name false)

@@ -4,11 +4,14 @@
 mod args;
 mod causes;
 mod classes;
+mod command;
 mod draft;
 mod line;
 mod reply;
 mod row;
 mod shown;
+#[cfg(test)]
+mod tests;
 mod verb;
 mod words;
 
