@@ -20,6 +20,16 @@ abbrev pub lines : List ℕ → List (List ℕ)
 lines [] = []
 lines (b ∷ bs) = if b == 10 then [] ∷ lines bs else onto_first b (lines bs)
 
+-- the first line
+abbrev pub first_line : List ℕ → List ℕ
+first_line [] = []
+first_line (b ∷ bs) = if b == 10 then [] else b ∷ first_line bs
+
+-- what stands behind the first line
+abbrev pub after_line : List ℕ → List ℕ
+after_line [] = []
+after_line (b ∷ bs) = if b == 10 then bs else after_line bs
+
 -- the line of what was read
 abbrev pub said : {A : Type 0} → Result A BadLine → (A → Command) → Line
 said (Ok read) command = says.Command (command read)

@@ -1,4 +1,5 @@
-// What follows the first word of a command.
+// What follows the first word of a command. Too few or too many words are Count, whatever the words are;
+// then the first of them from the left that isn't what it should be is Name, Number or Word.
 ghost use Rattle.std.specs.Prelude.{◌≡◌, Ok, IfOk};
 ghost use Rattle.std.specs.Result.{result_map_both};
 ghost use Rattle.ev_model.specs.Glyphs.{IsText};
@@ -20,6 +21,7 @@ fn counted(n: usize, args: &[u8]) -> Result<(), BadLine>
     }
 }
 
+/// No words at all.
 #[tactic(auto, unfolding(crate::specs::Args::no_words))]
 pub fn no_words(args: &[u8]) -> Result<(), BadLine>
     ensures { result ≡ no_words (words args.now) }
@@ -27,6 +29,7 @@ pub fn no_words(args: &[u8]) -> Result<(), BadLine>
     counted(0, args)
 }
 
+/// One number.
 #[tactic(auto, unfolding(crate::specs::Args::one_number))]
 pub fn one_number(args: &[u8]) -> Result<i64, BadLine>
     ensures { result ≡ one_number (words args.now) }
@@ -36,6 +39,7 @@ pub fn one_number(args: &[u8]) -> Result<i64, BadLine>
     Ok(n)
 }
 
+// Two numbers, and maybe more words.
 #[tactic(auto, unfolding(crate::specs::Args::pair))]
 fn pair(args: &[u8]) -> Result<(i64, i64), BadLine>
     ensures { result ≡ pair (words args.now) }
@@ -45,6 +49,7 @@ fn pair(args: &[u8]) -> Result<(i64, i64), BadLine>
     Ok((m, n))
 }
 
+// Four numbers, and maybe more words.
 #[tactic(auto, unfolding(crate::specs::Args::quad))]
 fn quad(args: &[u8]) -> Result<(i64, i64, i64, i64), BadLine>
     ensures { result ≡ quad (words args.now) }
@@ -55,6 +60,7 @@ fn quad(args: &[u8]) -> Result<(i64, i64, i64, i64), BadLine>
     Ok((k, l, m, n))
 }
 
+/// Two numbers.
 #[tactic(auto, unfolding(crate::specs::Args::two_numbers))]
 pub fn two_numbers(args: &[u8]) -> Result<(i64, i64), BadLine>
     ensures { result ≡ two_numbers (words args.now) }
@@ -63,6 +69,7 @@ pub fn two_numbers(args: &[u8]) -> Result<(i64, i64), BadLine>
     pair(args)
 }
 
+/// Four numbers.
 #[tactic(auto, unfolding(crate::specs::Args::four_numbers))]
 pub fn four_numbers(args: &[u8]) -> Result<(i64, i64, i64, i64), BadLine>
     ensures { result ≡ four_numbers (words args.now) }
@@ -71,6 +78,7 @@ pub fn four_numbers(args: &[u8]) -> Result<(i64, i64, i64, i64), BadLine>
     quad(args)
 }
 
+/// One name.
 #[tactic(auto, unfolding(crate::specs::Args::one_name))]
 pub fn one_name(args: &[u8]) -> Result<Name, BadLine>
     ensures { result ≡ one_name (words args.now) }
@@ -82,6 +90,7 @@ pub fn one_name(args: &[u8]) -> Result<Name, BadLine>
     }
 }
 
+/// Two names.
 #[tactic(auto, unfolding(crate::specs::Args::two_names))]
 pub fn two_names(args: &[u8]) -> Result<(Name, Name), BadLine>
     ensures { result ≡ two_names (words args.now) }
@@ -96,6 +105,7 @@ pub fn two_names(args: &[u8]) -> Result<(Name, Name), BadLine>
     }
 }
 
+/// A name and a number.
 #[tactic(auto, unfolding(crate::specs::Args::name_and_number))]
 pub fn name_and_number(args: &[u8]) -> Result<(Name, i64), BadLine>
     ensures { result ≡ name_and_number (words args.now) }
@@ -110,6 +120,7 @@ pub fn name_and_number(args: &[u8]) -> Result<(Name, i64), BadLine>
     }
 }
 
+/// A name and two numbers.
 #[tactic(auto, unfolding(crate::specs::Args::name_and_two))]
 pub fn name_and_two(args: &[u8]) -> Result<(Name, i64, i64), BadLine>
     ensures { result ≡ name_and_two (words args.now) }
@@ -124,6 +135,7 @@ pub fn name_and_two(args: &[u8]) -> Result<(Name, i64, i64), BadLine>
     }
 }
 
+/// A name and four numbers.
 #[tactic(auto, unfolding(crate::specs::Args::name_and_four))]
 pub fn name_and_four(args: &[u8]) -> Result<(Name, i64, i64, i64, i64), BadLine>
     ensures { result ≡ name_and_four (words args.now) }
@@ -138,6 +150,7 @@ pub fn name_and_four(args: &[u8]) -> Result<(Name, i64, i64, i64, i64), BadLine>
     }
 }
 
+/// A name, and `blend` or `copy`.
 #[tactic(auto, unfolding(crate::specs::Args::name_and_op))]
 pub fn name_and_op(args: &[u8]) -> Result<(Name, Op), BadLine>
     ensures { result ≡ name_and_op (words args.now) }
@@ -149,6 +162,7 @@ pub fn name_and_op(args: &[u8]) -> Result<(Name, Op), BadLine>
     }
 }
 
+/// A name, and `on` or `off`.
 #[tactic(auto, unfolding(crate::specs::Args::name_and_switch))]
 pub fn name_and_switch(args: &[u8]) -> Result<(Name, bool), BadLine>
     ensures { result ≡ name_and_switch (words args.now) }
@@ -170,6 +184,7 @@ pub fn name_and_text(rest: &[u8]) -> Result<(Name, &[u8]), BadLine>
     named_text(skip_spaces(rest))
 }
 
+// The same from the name on.
 fn named_text(text: &[u8]) -> Result<(Name, &[u8]), BadLine>
     requires { IsText text.now }
     ensures read { result_map_both (λ found. (found.0, found.1.now)) (λ fault. fault) result ≡ named_text text.now }

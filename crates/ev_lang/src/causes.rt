@@ -4,6 +4,7 @@ ghost use Rattle.ev_model.specs.Text.{bad_word, refusal_word, image_word, font_w
 
 use ev_model::{BadLine, FontFault, ImageFault, Refusal};
 
+/// Why a line is bad.
 pub fn bad_word(fault: BadLine) -> &'static [u8]
     ensures word { result.now ≡ bad_word fault }
     ensures short { length result.now ≤ 10 }
@@ -18,6 +19,7 @@ pub fn bad_word(fault: BadLine) -> &'static [u8]
     }
 }
 
+/// Why a command was refused.
 pub fn refusal_word(cause: Refusal) -> &'static [u8]
     ensures word { result.now ≡ refusal_word cause }
     ensures short { length result.now ≤ 10 }
@@ -42,6 +44,7 @@ pub fn refusal_word(cause: Refusal) -> &'static [u8]
     }
 }
 
+/// What is wrong with an image.
 pub fn image_word(fault: ImageFault) -> &'static [u8]
     ensures word { result.now ≡ image_word fault }
     ensures short { length result.now ≤ 10 }
@@ -56,6 +59,7 @@ pub fn image_word(fault: ImageFault) -> &'static [u8]
     }
 }
 
+/// What is wrong with a font.
 pub fn font_word(fault: FontFault) -> &'static [u8]
     ensures word { result.now ≡ font_word fault }
     ensures short { length result.now ≤ 10 }

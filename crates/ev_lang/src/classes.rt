@@ -81,6 +81,7 @@ fn switch_of(word: &[u8]) -> Option<bool>
     }
 }
 
+// A number of at most 10 digits, with its sign.
 #[tactic(auto, unfolding(crate::specs::Classes::number))]
 fn number(word: &[u8]) -> Option<i64>
     ensures { result ≡ number word.now }
@@ -92,6 +93,7 @@ fn number(word: &[u8]) -> Option<i64>
     }
 }
 
+// What stands behind a sign. 0 has none.
 #[tactic(auto, unfolding(crate::specs::Classes::negative))]
 fn negative(digits: &[u8]) -> Option<i64>
     ensures { result ≡ negative digits.now }
@@ -102,6 +104,7 @@ fn negative(digits: &[u8]) -> Option<i64>
     Some(-(natural(digits)? as i64))
 }
 
+// 1 to 10 digits, of which the first isn't 0 unless it is the only one.
 #[tactic(auto, unfolding(crate::specs::Classes::natural))]
 fn natural(digits: &[u8]) -> Option<u64>
     ensures value { result ≡ natural digits.now }

@@ -9,6 +9,7 @@ mod draft;
 mod line;
 mod reply;
 mod row;
+mod script;
 mod shown;
 #[cfg(test)]
 mod tests;
@@ -17,3 +18,4 @@ mod words;
 
 pub use line::{LONGEST_LINE, Line, read_line};
 pub use reply::write_reply;
+pub use script::first_line;

@@ -42,7 +42,7 @@ pub fn write_reply<K: Sink>(sink: &mut K, reply: &Reply) -> Result<(), Failed>
     }
 }
 
-// Writes a line that is laid out.
+/// Writes a line that is laid out.
 pub fn send<K: Sink>(sink: &mut K, draft: &Draft<LINE>) -> Result<(), Failed>
     ensures ok { OnOk result (GrowsBy (K.written sink.old) (K.written sink.new) draft.now) }
     ensures err { OnErr result (GrowsPart (K.written sink.old) (K.written sink.new) draft.now) }
