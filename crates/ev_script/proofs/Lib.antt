@@ -1,9 +1,7 @@
 pub mod Painting
-pub mod Editing
-pub mod Splitting
 pub mod Pieces
 pub mod Reading
-pub mod Rows
+pub mod Counting
 pub mod Turns
 pub mod Playing
 pub mod Orders

@@ -5,7 +5,7 @@ use Rattle.std.proofs.lemmas.Int.{ints}
 use Rattle.ev_geom.specs.Bands.{has_pixel}
 use Rattle.ev_port.specs.Told.{GrowsBy, grows_by_none}
 use Rattle.ev_port.specs.Frame.{Frame}
-use Rattle.ev_script.specs.declared.scene.Scene.{Scene}
+use Rattle.ev_scene.specs.Board.{Board}
 use Rattle.ev_script.specs.Frames.{RisesWithin, AreReported, IsReportedAfter, ReportsDifferences, ShowsInOrder}
 use Rattle.ev_script.specs.Machine.{Start, shown, redrawn_frame, whole}
 
@@ -13,11 +13,11 @@ higher : (low high top : ℕ) (frames : List Frame) → high ≤ top → RisesWi
 higher low high top [] le rises = omega (arith, le, rises)
 higher low high top (frame ∷ frames) le rises = (rises.0, higher frame.number high top frames le rises.1)
 
-one_more : (low high : ℕ) (scene : Scene) (frames : List Frame) → RisesWithin low high frames → RisesWithin low (high + 1) (frames ++ redrawn_frame (high + 1) scene ∷ [])
+one_more : (low high : ℕ) (scene : Board) (frames : List Frame) → RisesWithin low high frames → RisesWithin low (high + 1) (frames ++ redrawn_frame (high + 1) scene ∷ [])
 one_more low high scene [] rises = (omega (arith, rises), omega arith)
 one_more low high scene (frame ∷ frames) rises = (rises.0, one_more frame.number high scene frames rises.1)
 
-added : (high : ℕ) (is_shown : Bool) (scene : Scene) (frames : List Frame) → RisesWithin 0 high frames → RisesWithin 0 (high + 1) (frames ++ (if is_shown then redrawn_frame (high + 1) scene ∷ [] else []))
+added : (high : ℕ) (is_shown : Bool) (scene : Board) (frames : List Frame) → RisesWithin 0 high frames → RisesWithin 0 (high + 1) (frames ++ (if is_shown then redrawn_frame (high + 1) scene ∷ [] else []))
 added high true scene frames rises = one_more 0 high scene frames rises
 added high false scene frames rises = subst (λ fs. RisesWithin 0 (high + 1) fs) (sym (append-nil frames)) (higher 0 high (high + 1) frames (omega arith) rises)
 
@@ -27,22 +27,22 @@ shown_rises (start ∷ older) =
     subst (λ n. RisesWithin 0 n (shown (start ∷ older))) (omega arith) (added (length older) start.is_shown start.scene (shown older) (shown_rises older))
 
 -- the whole canvas holds each of its pixels
-pub whole_holds : (scene : Scene) (x y : ℕ) → x < scene.w → y < scene.h → has_pixel (whole scene ∷ []) (pos x) (pos y) ≡ true
+pub whole_holds : (scene : Board) (x y : ℕ) → x < scene.w → y < scene.h → has_pixel (whole scene ∷ []) (pos x) (pos y) ≡ true
 whole_holds scene x y column row = grind (arith, ints)
 
-reports : (earlier : Frame) (n : ℕ) (scene : Scene) → ReportsDifferences earlier (redrawn_frame n scene)
+reports : (earlier : Frame) (n : ℕ) (scene : Board) → ReportsDifferences earlier (redrawn_frame n scene)
 reports earlier n scene width height x y column row differ = whole_holds scene x y column row
 
 -- a frame behind frames whose differences are reported
-reported_more : (earlier : Frame) (frames : List Frame) (n : ℕ) (scene : Scene) → IsReportedAfter earlier frames → IsReportedAfter earlier (frames ++ redrawn_frame n scene ∷ [])
+reported_more : (earlier : Frame) (frames : List Frame) (n : ℕ) (scene : Board) → IsReportedAfter earlier frames → IsReportedAfter earlier (frames ++ redrawn_frame n scene ∷ [])
 reported_more earlier [] n scene reported = (reports earlier n scene, tt)
 reported_more earlier (frame ∷ frames) n scene reported = (reported.0, reported_more frame frames n scene reported.1)
 
-reported_on : (frames : List Frame) (n : ℕ) (scene : Scene) → AreReported frames → AreReported (frames ++ redrawn_frame n scene ∷ [])
+reported_on : (frames : List Frame) (n : ℕ) (scene : Board) → AreReported frames → AreReported (frames ++ redrawn_frame n scene ∷ [])
 reported_on [] n scene reported = tt
 reported_on (frame ∷ frames) n scene reported = reported_more frame frames n scene reported
 
-reported_after : (frames : List Frame) (n : ℕ) (is_shown : Bool) (scene : Scene) → AreReported frames → AreReported (frames ++ (if is_shown then redrawn_frame n scene ∷ [] else []))
+reported_after : (frames : List Frame) (n : ℕ) (is_shown : Bool) (scene : Board) → AreReported frames → AreReported (frames ++ (if is_shown then redrawn_frame n scene ∷ [] else []))
 reported_after frames n true scene reported = reported_on frames n scene reported
 reported_after frames n false scene reported = subst AreReported (sym (append-nil frames)) reported
 

@@ -3,8 +3,8 @@ use Rattle.std.proofs.Common.{◌≡◌, ℕ, suc, ◌+◌, ◌<◌, List, [], �
 use Rattle.std.specs.List.{flat_map, range_with_len}
 use Rattle.std.proofs.lemmas.List.{take-append-drop, append-nil}
 use Rattle.std.proofs.lemmas.List.FromFn.{map-range_with_len_more, take-map-range_with_len, get_or-map-range_with_len, length-map-range_with_len}
-use Rattle.ev_script.specs.Machine.{Reply}
-use Rattle.ev_script.specs.Text.{reply_text, text}
+use Rattle.ev_model.specs.Answer.{Answer}
+use Rattle.ev_model.specs.Text.{reply_text, text}
 use Rattle.std.proofs.lemmas.Grind.{flat_map-append}
 use Rattle.ev_port.specs.Told.{GrowsBy, GrowsPart, grows_on, part_of_front, whole_then_part}
 
@@ -22,7 +22,7 @@ cut_at f xs i x a b c below whole part =
     subst (λ all. GrowsPart a c all) joined (whole_then_part whole (part_of_front (flat_map f (drop (suc i) xs)) part))
 
 -- replies by number: one more of them
-pub replies_more : (reply : ℕ → Reply) (n : ℕ) (a b c : Option (List ℕ)) → GrowsBy a b (text (map reply (range_with_len 0 n))) → GrowsBy b c (reply_text (reply n)) → GrowsBy a c (text (map reply (range_with_len 0 (n + 1))))
+pub replies_more : (reply : ℕ → Answer) (n : ℕ) (a b c : Option (List ℕ)) → GrowsBy a b (text (map reply (range_with_len 0 n))) → GrowsBy b c (reply_text (reply n)) → GrowsBy a c (text (map reply (range_with_len 0 (n + 1))))
 replies_more reply n a b c whole next =
     let more : text (map reply (range_with_len 0 (n + 1))) ≡ text (map reply (range_with_len 0 n)) ++ reply_text (reply n) =
     ap text (map-range_with_len_more reply 0 n n (omega arith))
@@ -31,7 +31,7 @@ replies_more reply n a b c whole next =
     subst (λ all. GrowsBy a c all) (sym more) (grows_on whole next)
 
 -- and a front of the next
-pub replies_cut : (reply : ℕ → Reply) (n count : ℕ) (a b c : Option (List ℕ)) → n < count → GrowsBy a b (text (map reply (range_with_len 0 n))) → GrowsPart b c (reply_text (reply n)) → GrowsPart a c (text (map reply (range_with_len 0 count)))
+pub replies_cut : (reply : ℕ → Answer) (n count : ℕ) (a b c : Option (List ℕ)) → n < count → GrowsBy a b (text (map reply (range_with_len 0 n))) → GrowsPart b c (reply_text (reply n)) → GrowsPart a c (text (map reply (range_with_len 0 count)))
 replies_cut reply n count a b c below whole part =
     let replies = map reply (range_with_len 0 count) in
     let front : map reply (range_with_len 0 n) ≡ take n replies = sym (take-map-range_with_len reply 0 count n (omega arith)) in

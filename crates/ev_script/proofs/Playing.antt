@@ -4,13 +4,18 @@ use Rattle.std.proofs.lemmas.List.{append-nil}
 use Rattle.std.proofs.lemmas.Grind.{flat_map-append}
 use Rattle.ev_port.specs.Told.{GrowsBy, grows_on, grows_by_none}
 use Rattle.ev_port.specs.Causes.{RoseBy, rose_by_none, rose_by_on}
+use Rattle.ev_model.specs.Answer.{Answer}
+use Rattle.ev_model.specs.Text.{reply_text, text}
+use Rattle.ev_model.specs.declared.command.Command.TheVariants as command
+use Rattle.ev_model.specs.declared.command.Edit.TheVariants as edit
+use Rattle.ev_lang.specs.Value.{by_value}
+use Rattle.ev_lang.specs.Words.{onto_first}
+use Rattle.ev_lang.specs.Lines.{lines, line_of, first_line, after_line}
+use Rattle.ev_lang.specs.declared.line.Line.{Line}
+use Rattle.ev_lang.specs.declared.line.Line.TheVariants as line
 use Rattle.ev_script.specs.declared.session.Session.{Session}
-use Rattle.ev_script.specs.declared.line.Line.{Line}
-use Rattle.ev_script.specs.Words.{onto_first}
-use Rattle.ev_script.specs.Lines.{lines, line_of, first_line, after_line}
-use Rattle.ev_script.specs.Machine.{State, Turn, Step, Plays, Reply, opening, shown, losses_of, lost_frames}
+use Rattle.ev_script.specs.Machine.{State, Turn, Step, Plays, opening, shown, losses_of, lost_frames}
 use Rattle.ev_script.specs.Outside.{Outside, Whole, Part}
-use Rattle.ev_script.specs.Text.{reply_text, text}
 use Rattle.ev_script.specs.Session.{StandsFor, Carried, Carries}
 use Rattle.ev_script.specs.Play.{script_lines, Played, Stopped}
 
@@ -28,8 +33,15 @@ says_first : (b : ℕ) (bs : List ℕ) (line : Line) (after : List ℕ) → line
 says_first b bs line after is behind =
     ap (map line_of) (lines_split b bs) ∙ ap₂ (λ (l : Line) (rest : List ℕ). l ∷ script_lines rest) (sym is) (sym behind)
 
+-- a line does what its value does
+by_value_step : (state : State) (n : ℕ) (said : Line) (turn : Turn) → Step state n said turn → Step state n (by_value said) turn
+by_value_step state n (line.Command (command.Edit (edit.Say name bytes))) turn step = step
+by_value_step state n (line.Command (command.Edit other)) turn step = step
+by_value_step state n (line.Command other) turn step = step
+by_value_step state n other turn step = step
+
 -- one line more
-plays_on : (old : State) (n m : ℕ) (answered : List Line) (line : Line) (replies : List Reply) (state : State) (turn : Turn) → Plays old n answered replies state → n + length answered ≡ m → Step state m line turn → Plays old n (answered ++ line ∷ []) (replies ++ turn.replies) turn.after
+plays_on : (old : State) (n m : ℕ) (answered : List Line) (line : Line) (replies : List Answer) (state : State) (turn : Turn) → Plays old n answered replies state → n + length answered ≡ m → Step state m line turn → Plays old n (answered ++ line ∷ []) (replies ++ turn.replies) turn.after
 plays_on old n m [] line replies state turn plays number step =
     let number_is : m ≡ n = omega (arith, number) in
     (turn, [], subst (λ (s : State). Step s n line turn) plays.1 (subst (λ k. Step state k line turn) number_is step), (refl, refl), ap (λ rs. rs ++ turn.replies) plays.0 ∙ sym (append-nil turn.replies))
@@ -39,7 +51,7 @@ plays_on old n m (first ∷ answered) line replies state turn plays number step 
     (plays.0, rest ++ turn.replies, plays.2, plays_on plays.0.after (n + 1) m answered line rest state turn plays.3 number_is step, ap (λ rs. rs ++ turn.replies) plays.4 ∙ append_assoc plays.0.replies rest turn.replies)
 
 -- losses of one list of replies and then another
-losses_on : (earlier later : List Reply) → lost_frames (earlier ++ later) ≡ lost_frames earlier + lost_frames later
+losses_on : (earlier later : List Answer) → lost_frames (earlier ++ later) ≡ lost_frames earlier + lost_frames later
 losses_on [] later = omega arith
 losses_on (reply ∷ earlier) later = ap (λ n. losses_of reply + n) (losses_on earlier later) ∙ sym (add_assoc (losses_of reply) (lost_frames earlier) (lost_frames later))
 
@@ -49,7 +61,7 @@ pub record SoFar (script : List ℕ) (before now : Outside) (session : Session) 
   pub answered : List Line
   pub split : script_lines script ≡ answered ++ script_lines rest
   pub numbered : length answered + 1 ≡ number
-  pub replies : List Reply
+  pub replies : List Answer
   pub state : State
   pub plays : Plays opening 1 answered replies state
   pub stands : StandsFor session state
@@ -73,18 +85,18 @@ at_start script before session stands = record {
 }
 
 -- after one more line
-pub one_line : (script : List ℕ) (before now after : Outside) (old new : Session) (number : ℕ) (rest : List ℕ) (line : Line) (behind : List ℕ) → 0 < length rest → line ≡ line_of (first_line rest) → behind ≡ after_line rest → SoFar script before now old number rest → Carries Whole number line now after old new → SoFar script before after new (number + 1) behind
+pub one_line : (script : List ℕ) (before now after : Outside) (old new : Session) (number : ℕ) (rest : List ℕ) (line : Line) (behind : List ℕ) → 0 < length rest → by_value line ≡ line_of (first_line rest) → behind ≡ after_line rest → SoFar script before now old number rest → Carries Whole number line now after old new → SoFar script before after new (number + 1) behind
 one_line script before now after old new number [] line behind some is behind_is so_far carries = absurd (omega arith)
 one_line script before now after old new number (b ∷ bs) line behind some is behind_is so_far carries =
     let carried = carries so_far.state so_far.stands in
     let turn = carried.turn in
     record {
-      answered = so_far.answered ++ line ∷ [];
-      split = so_far.split ∙ ap (λ ls. so_far.answered ++ ls) (says_first b bs line behind is behind_is) ∙ sym (append_assoc so_far.answered (line ∷ []) (script_lines behind));
-      numbered = ap (λ n. n + 1) (length-append so_far.answered (line ∷ []) ∙ so_far.numbered);
+      answered = so_far.answered ++ by_value line ∷ [];
+      split = so_far.split ∙ ap (λ ls. so_far.answered ++ ls) (says_first b bs (by_value line) behind is behind_is) ∙ sym (append_assoc so_far.answered (by_value line ∷ []) (script_lines behind));
+      numbered = ap (λ n. n + 1) (length-append so_far.answered (by_value line ∷ []) ∙ so_far.numbered);
       replies = so_far.replies ++ turn.replies;
       state = turn.after;
-      plays = plays_on opening 1 number so_far.answered line so_far.replies so_far.state turn so_far.plays (omega (arith, so_far.numbered)) carried.step;
+      plays = plays_on opening 1 number so_far.answered (by_value line) so_far.replies so_far.state turn so_far.plays (omega (arith, so_far.numbered)) (by_value_step so_far.state number line turn carried.step);
       stands = carried.stands;
       log_grows = subst (λ t. GrowsBy before.log after.log t) (sym (flat_map-append reply_text so_far.replies turn.replies)) (grows_on so_far.log_grows carried.log_grows);
       screen_grows = subst (λ frames. GrowsBy before.frames after.frames frames) (sym carried.shown_grows) (grows_on so_far.screen_grows carried.screen_grows);
@@ -104,7 +116,7 @@ at_end script before now session number [] none so_far = record {
 }
 
 -- where the log failed within the replies to a line
-pub stopped : (script : List ℕ) (before now after : Outside) (old new : Session) (number : ℕ) (rest : List ℕ) (line : Line) (behind : List ℕ) → 0 < length rest → line ≡ line_of (first_line rest) → behind ≡ after_line rest → SoFar script before now old number rest → Carries Part number line now after old new → Stopped script before after
+pub stopped : (script : List ℕ) (before now after : Outside) (old new : Session) (number : ℕ) (rest : List ℕ) (line : Line) (behind : List ℕ) → 0 < length rest → by_value line ≡ line_of (first_line rest) → behind ≡ after_line rest → SoFar script before now old number rest → Carries Part number line now after old new → Stopped script before after
 stopped script before now after old new number [] line behind some is behind_is so_far carries = absurd (omega arith)
 stopped script before now after old new number (b ∷ bs) line behind some is behind_is so_far carries =
     let carried = carries so_far.state so_far.stands in
@@ -112,14 +124,14 @@ stopped script before now after old new number (b ∷ bs) line behind some is be
     let part = carried.log_grows in
     record {
       answered = so_far.answered;
-      last = line;
+      last = by_value line;
       left = script_lines behind;
-      split = so_far.split ∙ ap (λ ls. so_far.answered ++ ls) (says_first b bs line behind is behind_is);
+      split = so_far.split ∙ ap (λ ls. so_far.answered ++ ls) (says_first b bs (by_value line) behind is behind_is);
       replies = so_far.replies;
       state = so_far.state;
       plays = so_far.plays;
       turn = turn;
-      step = subst (λ k. Step so_far.state k line turn) (sym so_far.numbered) carried.step;
+      step = subst (λ k. Step so_far.state k (by_value line) turn) (sym so_far.numbered) (by_value_step so_far.state number line turn carried.step);
       written = part.added;
       missing = part.left_out;
       cut = part.split;

@@ -1,10 +1,5 @@
-pub mod Name
-pub mod Words
-pub mod Lines
-pub mod Edits
-pub mod Paint
+pub mod Totals
 pub mod Machine
-pub mod Text
 pub mod Outside
 pub mod Session
 pub mod Play

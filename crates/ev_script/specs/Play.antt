@@ -2,11 +2,12 @@
 use Rattle.std.specs.Prelude.{◌≡◌, ℕ, ◌+◌, List, [], ◌∷◌, ◌++◌, length, map, Option}
 use Rattle.ev_port.specs.Told.{GrowsBy, ShrinksBy, IsAtEnd}
 use Rattle.ev_port.specs.Causes.{RoseBy}
-use Rattle.ev_script.specs.declared.line.Line.{Line}
-use Rattle.ev_script.specs.Lines.{lines, line_of}
-use Rattle.ev_script.specs.Machine.{State, Turn, Step, Reply, Plays, opening, shown, lost_frames}
+use Rattle.ev_model.specs.Answer.{Answer}
+use Rattle.ev_model.specs.Text.{text}
+use Rattle.ev_lang.specs.declared.line.Line.{Line}
+use Rattle.ev_lang.specs.Lines.{lines, line_of}
+use Rattle.ev_script.specs.Machine.{State, Turn, Step, Plays, opening, shown, lost_frames}
 use Rattle.ev_script.specs.Outside.{Outside}
-use Rattle.ev_script.specs.Text.{text}
 
 -- what the lines of a script say
 abbrev pub script_lines : List ℕ → List Line
@@ -15,7 +16,7 @@ script_lines script = map line_of (lines script)
 -- The machine plays all lines of the script. The log has grown by the bytes of its replies and the
 -- screen by the frames that it shows, and the screen failed at least once for each lost frame.
 pub record Played (script : List ℕ) (before after : Outside) : Type 0 where
-  pub replies : List Reply
+  pub replies : List Answer
   pub final : State
   pub plays : Plays opening 1 (script_lines script) replies final
   pub log_grows : GrowsBy before.log after.log (text replies)
@@ -30,7 +31,7 @@ pub record Stopped (script : List ℕ) (before after : Outside) : Type 0 where
   pub last : Line
   pub left : List Line
   pub split : script_lines script ≡ answered ++ last ∷ left
-  pub replies : List Reply
+  pub replies : List Answer
   pub state : State
   pub plays : Plays opening 1 answered replies state
   pub turn : Turn

@@ -1,41 +1,33 @@
 -- How a session stands for a state of the machine.
-use Rattle.std.specs.Prelude.{◌≡◌, ℕ, ◌+◌, ◌≤◌, List, [], ◌∷◌, ◌++◌, length, Option, Some, None, IfSome}
+use Rattle.std.specs.Prelude.{◌≡◌, ℕ, ◌+◌, ◌<◌, ◌≤◌, ◌^◌, List, [], ◌∷◌, ◌++◌, length, Option, Some, None, IfSome}
 use Rattle.ev_argb.specs.Grid.{Grid, IsWhole}
 use Rattle.ev_port.specs.Told.{GrowsBy}
 use Rattle.ev_port.specs.Causes.{RoseBy}
 use Rattle.ev_port.specs.Frame.{Frame}
-use Rattle.ev_script.specs.declared.scene.Scene.{Scene}
+use Rattle.ev_model.specs.Paint.{IsRedrawn}
+use Rattle.ev_model.specs.Text.{text}
+use Rattle.ev_lang.specs.declared.line.Line.{Line}
+use Rattle.ev_scene.specs.Board.{board, stage_of}
 use Rattle.ev_script.specs.declared.session.Session.{Session}
-use Rattle.ev_script.specs.declared.line.Line.{Line}
-use Rattle.ev_script.specs.Paint.{IsRedrawn}
 use Rattle.ev_script.specs.Machine.{State, Start, Turn, Step, shown, lost_frames}
 use Rattle.ev_script.specs.Outside.{Outside}
-use Rattle.ev_script.specs.Text.{text}
 
 -- the picture is that of the newest start, and there is none before the first
 abbrev pub ShowsNewest : Option Grid → List Start → Type 0
 ShowsNewest None [] = Unit {0}
 ShowsNewest None (start ∷ older) = ⊥
 ShowsNewest (Some grid) [] = ⊥
-ShowsNewest (Some grid) (start ∷ older) = IsRedrawn start.scene grid
+ShowsNewest (Some grid) (start ∷ older) = IsRedrawn (stage_of start.scene) grid
 
 -- a session keeps the scene, how many frames were drawn, and the picture drawn last
 pub record StandsFor (session : Session) (state : State) : Type 0 where
-  pub scene : session.scene ≡ state.scene
+  pub scene : board session.scene ≡ state.scene
   pub frames : session.frames ≡ length state.starts
   pub picture : ShowsNewest session.picture state.starts
 
--- a canvas has 1 to 4096 pixels each way
-pub record IsSized (scene : Scene) : Type 0 where
-  pub width_low : 1 ≤ scene.w
-  pub width_high : scene.w ≤ 4096
-  pub height_low : 1 ≤ scene.h
-  pub height_high : scene.h ≤ 4096
-
--- what every session keeps: such a canvas, and no plane of its picture is out
-pub record IsSound (session : Session) : Type 0 where
-  pub sized : IsSized session.scene
-  pub whole : IfSome session.picture IsWhole
+-- no plane of its picture is out
+abbrev pub HasWhole : Session → Type 0
+HasWhole session = IfSome session.picture IsWhole
 
 -- Line n took the state to one that the new session stands for. The screen has grown by what the
 -- machine shows, and the log by the bytes of its replies: by all of them, or by a front.

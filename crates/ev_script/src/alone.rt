@@ -6,8 +6,8 @@ ghost use Rattle.ev_script.specs.Frames.{ShowsInOrder};
 ghost use Rattle.ev_script.specs.Play.{Played, Stopped, OfScript};
 ghost use Rattle.ev_script.specs.Status.{are_accepted, is_before_lines, is_too_long, is_usage, Takes, IsFine, texts};
 
-use crate::play;
 use crate::source::{ReadError, read_script};
+use crate::{Session, play};
 use ev_port::{Screen, Sink, Source, Store};
 use std::alloc::Global;
 
@@ -60,8 +60,11 @@ pub fn run_alone<S: Source, K: Sink, T: Store, P: Screen>(
     if !are_accepted(words) {
         return Status::Usage;
     }
+    let Ok(mut session) = Session::new(alloc) else {
+        return Status::NoMemory;
+    };
     match read_script(alloc, source) {
-        Ok(script) => match play(alloc, &script, sink, screen) {
+        Ok(script) => match play(alloc, &mut session, &script, sink, screen) {
             Ok(()) => Status::Ok,
             Err(_) => Status::WriteFault,
         },

@@ -3,143 +3,137 @@ use ev_port::{MemScreen, MemSink, MemSource, MemStore, ScreenRoom};
 use std::process::Abort;
 use std::test::Fail;
 
-// A run over objects in memory, at calls of which the outside fails.
+// Which calls of the outside fail, counted from 1.
 #[derive(Clone, Copy)]
-struct Run<'a> {
-    script: &'a [u8],
-    words: &'a [&'a str],
-    failing_read: &'a [u64],
-    failing_write: &'a [u64],
-    failing_frame: &'a [u64],
-    status: Status,
-    log: &'a [u8],
+struct Failing<'a> {
+    reads: &'a [u64],
+    writes: &'a [u64],
+    frames: &'a [u64],
 }
 
-const PLAIN: Run<'static> = Run {
-    script: b"",
-    words: &[],
-    failing_read: &[],
-    failing_write: &[],
-    failing_frame: &[],
-    status: Status::Ok,
-    log: b"",
+const NEVER: Failing<'static> = Failing {
+    reads: &[],
+    writes: &[],
+    frames: &[],
 };
 
-// Carries out the script and compares status and log, over ample memory. Gives the screen back.
-fn compare<R: AllocGlobal + Abort>(rt: &R, run: &Run) -> Result<MemScreen, Fail> {
+// Carries out a script over ample memory, and compares how it ends and its log. Gives how many frames
+// were shown.
+fn compare<R: AllocGlobal + Abort>(
+    rt: &R,
+    words: &[&str],
+    script: &[u8],
+    failing: &Failing,
+    status: Status,
+    log: &[u8],
+) -> Result<usize, Fail> {
     let alloc = rt.alloc();
     let room = ScreenRoom {
         frames: 8,
         updates: 8,
         pixels: 1024,
     };
-    let mut source = MemSource::new(run.script.to_vec(alloc)?, run.failing_read.to_vec(alloc)?);
-    let mut sink = MemSink::new(alloc, 4096, run.failing_write.to_vec(alloc)?)?;
+    let mut source = MemSource::new(script.to_vec(alloc)?, failing.reads.to_vec(alloc)?);
+    let mut sink = MemSink::new(alloc, 4096, failing.writes.to_vec(alloc)?)?;
     let mut store = MemStore::new(Vec::new(alloc), Vec::new(alloc));
-    let mut screen = MemScreen::new(alloc, room, run.failing_frame.to_vec(alloc)?)?;
-    let status = run_alone(
+    let mut screen = MemScreen::new(alloc, room, failing.frames.to_vec(alloc)?)?;
+    let ended = run_alone(
         alloc,
-        run.words,
+        words,
         &mut source,
         &mut sink,
         &mut store,
         &mut screen,
     );
-    assert_eq!(rt; status, run.status);
-    assert_eq!(rt; sink.written(), run.log);
-    Ok(screen)
+    assert_eq!(rt; ended, status);
+    assert_eq!(rt; sink.written(), log);
+    Ok(screen.shown().len())
 }
 
 const RED: &[u8] = b"size 2 1\nrect r\nresize r 2 1\ncolor r 255 0 0 255\nshow r\nrender\ndump\n";
 
-#[test]
-fn rectangles(rt: HostRuntime) -> Result<(), Fail> {
-    let screen = compare(
-        &rt,
-        &Run {
-            script: RED,
-            log: b"shown 1 2 1 1\nupdate 0 0 2 1\nffff0000 ffff0000\n",
-            ..PLAIN
-        },
-    )?;
-    assert_eq!(&rt; screen.shown().len(), 1);
-    assert_eq!(&rt; screen.pixels().len(), 2);
-    compare(&rt, &PLAIN)?;
-    // half red over white, and nearly opaque red over white
-    compare(
-        &rt,
-        &Run {
-            script: b"size 1 1\nrect w\nresize w 1 1\nshow w\nrect r\nresize r 1 1\ncolor r 128 0 0 128\nshow r\nrender\ndump\ncolor r 254 0 0 254\nrender\ndump",
-            log: b"shown 1 1 1 1\nupdate 0 0 1 1\nffff7f7f\nshown 2 1 1 1\nupdate 0 0 1 1\nffff0101\n",
-            ..PLAIN
-        },
-    )?;
-    Ok(())
-}
+// Scripts and their logs: a red rectangle; nothing; half red over white, and nearly opaque red over white;
+// a copy of nothing; raised and lowered rectangles and their totals; each kind of bad line; refusals.
+const LOGS: [(&[u8], &[u8]); 7] = [
+    (RED, b"shown 1 2 1 1\nupdate 0 0 2 1\nffff0000 ffff0000\n"),
+    (b"", b""),
+    (
+        b"size 1 1\nrect w\nresize w 1 1\nshow w\nrect r\nresize r 1 1\ncolor r 128 0 0 128\nshow r\nrender\ndump\ncolor r 254 0 0 254\nrender\ndump",
+        b"shown 1 1 1 1\nupdate 0 0 1 1\nffff7f7f\nshown 2 1 1 1\nupdate 0 0 1 1\nffff0101\n",
+    ),
+    (
+        b"size 1 1\nrect w\nresize w 1 1\nshow w\nrect r\nresize r 1 1\ncolor r 0 0 0 0\nop r copy\nshow r\nrender\ndump\nhide r\nrender\ndump\n",
+        b"shown 1 1 1 1\nupdate 0 0 1 1\n00000000\nshown 2 1 1 1\nupdate 0 0 1 1\nffffffff\n",
+    ),
+    (
+        b"size 2 1\nrect a\nresize a 2 1\ncolor a 255 0 0 255\nshow a\nrect b\nresize b 1 1\ncolor b 0 0 255 255\nshow b\nrender\ndump\nsum\nraise a\nrender\nsum\nabove b a\nrender\ndump\nbelow b a\nlayer b 1\nabove a b\ndelete a\nrender\ndump\n",
+        b"shown 1 2 1 1\nupdate 0 0 2 1\nff0000ff ffff0000\nsum 510 255 0 255 1530\nshown 2 2 1 1\nupdate 0 0 2 1\nsum 510 510 0 0 1530\nshown 3 2 1 1\nupdate 0 0 2 1\nff0000ff ffff0000\nrefused layer 21\nshown 4 2 1 1\nupdate 0 0 2 1\nff0000ff 00000000\n",
+    ),
+    (
+        b"rect r\nmove r 1000001 0\nmove r 1000000 0\nmove r 01 0\nmove r 1\nmvoe r\nshow .r\n\n  \n # hm\nop r melt\n#\xc3\nsay r  \nimage i\n",
+        b"refused range 2\nbad number 4\nbad count 5\nbad word 6\nbad name 7\nbad word 11\nbad byte 12\nbad word 13\nbad word 14\n",
+    ),
+    (
+        b"dump\nsum\nrect r\nrect r\nmove z 0 0\nsize 0 1\nsize 4097 1\nlayer r 32768\nabove r r\nbelow r z\ncolor r 0 0 256 0\nresize r -1 0\n",
+        b"refused none 1\nrefused none 2\nrefused exists 4\nrefused unknown 5\nrefused range 6\nrefused range 7\nrefused range 8\nrefused itself 9\nrefused unknown 10\nrefused range 11\nrefused range 12\n",
+    ),
+];
 
 #[test]
-fn lines_that_do_nothing(rt: HostRuntime) -> Result<(), Fail> {
-    compare(
-        &rt,
-        &Run {
-            script: b"dump\nrect r\nrect r\nmove r 1000001 0\nmove z 0 0\nmove r -1000000 0\n\n  \n # hm\nmove r 01 0\nfoo\nsize 0 1\nresize r 1\nsum\nsize 4097 1\n#\xc3\n",
-            log: b"refused none 1\nrefused exists 3\nrefused range 4\nrefused unknown 5\nbad word 10\nbad word 11\nrefused range 12\nbad word 13\nbad word 14\nrefused range 15\nbad word 16\n",
-            ..PLAIN
-        },
-    )?;
+fn logs_of_scripts(rt: HostRuntime) -> Result<(), Fail> {
+    for (script, log) in LOGS {
+        compare(&rt, &[], script, &NEVER, Status::Ok, log)?;
+    }
     Ok(())
 }
 
 #[test]
 fn faults(rt: HostRuntime) -> Result<(), Fail> {
+    let first: [u64; 1] = [1];
+    let second: [u64; 1] = [2];
     // the screen fails at its first call
-    let screen = compare(
+    let failing = Failing {
+        frames: &first,
+        ..NEVER
+    };
+    let log: &[u8] = b"lost 1\nshown 2 4 4 1\nupdate 0 0 4 4\n";
+    let shown = compare(
         &rt,
-        &Run {
-            script: b"size 4 4\nrender\nrender\n",
-            failing_frame: &[1],
-            log: b"lost 1\nshown 2 4 4 1\nupdate 0 0 4 4\n",
-            ..PLAIN
-        },
+        &[],
+        b"size 4 4\nrender\nrender\n",
+        &failing,
+        Status::Ok,
+        log,
     )?;
-    assert_eq!(&rt; screen.shown().len(), 1);
+    assert_eq!(&rt; shown, 1);
     // the source fails at its first call
-    compare(
-        &rt,
-        &Run {
-            script: RED,
-            failing_read: &[1],
-            status: Status::ReadFault,
-            ..PLAIN
-        },
-    )?;
+    let failing = Failing {
+        reads: &first,
+        ..NEVER
+    };
+    compare(&rt, &[], RED, &failing, Status::ReadFault, b"")?;
     // the sink fails at its second call
-    let screen = compare(
+    let failing = Failing {
+        writes: &second,
+        ..NEVER
+    };
+    let log: &[u8] = b"shown 1 1 1 1\n";
+    let shown = compare(
         &rt,
-        &Run {
-            script: b"size 1 1\nrender\ndump\n",
-            failing_write: &[2],
-            status: Status::WriteFault,
-            log: b"shown 1 1 1 1\n",
-            ..PLAIN
-        },
+        &[],
+        b"size 1 1\nrender\ndump\n",
+        &failing,
+        Status::WriteFault,
+        log,
     )?;
-    assert_eq!(&rt; screen.shown().len(), 1);
+    assert_eq!(&rt; shown, 1);
     Ok(())
 }
 
 #[test]
 fn words(rt: HostRuntime) -> Result<(), Fail> {
-    let log = b"shown 1 2 1 1\nupdate 0 0 2 1\nffff0000 ffff0000\n";
-    compare(
-        &rt,
-        &Run {
-            script: RED,
-            words: &["--workers", "0"],
-            log,
-            ..PLAIN
-        },
-    )?;
+    let log: &[u8] = b"shown 1 2 1 1\nupdate 0 0 2 1\nffff0000 ffff0000\n";
+    compare(&rt, &["--workers", "0"], RED, &NEVER, Status::Ok, log)?;
     let refused: [&[&str]; 4] = [
         &["--workers"],
         &["--workers", "1"],
@@ -147,15 +141,7 @@ fn words(rt: HostRuntime) -> Result<(), Fail> {
         &["--workers", "0", "0"],
     ];
     for words in refused {
-        compare(
-            &rt,
-            &Run {
-                script: RED,
-                words,
-                status: Status::Usage,
-                ..PLAIN
-            },
-        )?;
+        compare(&rt, words, RED, &NEVER, Status::Usage, b"")?;
     }
     Ok(())
 }
@@ -164,22 +150,29 @@ fn words(rt: HostRuntime) -> Result<(), Fail> {
 fn long_scripts(rt: HostRuntime) -> Result<(), Fail> {
     let alloc = rt.alloc();
     let mut script = vec![in alloc; b' '; 1 << 24]?;
-    compare(
-        &rt,
-        &Run {
-            script: &script,
-            log: b"bad word 1\n",
-            ..PLAIN
-        },
-    )?;
+    compare(&rt, &[], &script, &NEVER, Status::Ok, b"bad long 1\n")?;
     script.push(b' ')?;
+    compare(&rt, &[], &script, &NEVER, Status::TooLong, b"")?;
+    Ok(())
+}
+
+#[test]
+fn many_objects(rt: HostRuntime) -> Result<(), Fail> {
+    let mut script = Vec::new(rt.alloc());
+    for n in 0..65_537_u32 {
+        script.extend_from_slice(b"rect r")?;
+        for place in [10_000, 1_000, 100, 10, 1] {
+            script.push(b'0' + (n / place % 10) as u8)?;
+        }
+        script.push(b'\n')?;
+    }
     compare(
         &rt,
-        &Run {
-            script: &script,
-            status: Status::TooLong,
-            ..PLAIN
-        },
+        &[],
+        &script,
+        &NEVER,
+        Status::Ok,
+        b"refused full 65537\n",
     )?;
     Ok(())
 }

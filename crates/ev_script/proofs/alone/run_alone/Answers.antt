@@ -12,3 +12,6 @@ returns-in-Err-TooLong-clause-in_order g c = none_in_order _
 
 pub returns-clause-in_order : goal.returns-clause-in_order
 returns-clause-in_order g c = none_in_order _
+
+pub returns-in_default-clause-in_order : goal.returns-in_default-clause-in_order
+returns-in_default-clause-in_order g c = none_in_order _

@@ -1,0 +1,96 @@
+-- What a look-up of a name answers.
+use Rattle.std.proofs.Common.{◌≡◌, ℕ, ◌+◌, ◌-◌, ◌<◌, ◌≤◌, cond, if◌then◌else◌, List, [], ◌∷◌, ◌++◌, length, Option, Some, None, is_some, IfSome, option_copied, Bor, refl, sym, ap, ◌∙◌, subst, arith}
+use Rattle.std.specs.Option.{option_map}
+use Rattle.ev_state.specs.Held.{Held}
+use Rattle.ev_model.specs.declared.object.Object.{Object}
+use Rattle.std.specs.Map.{lookup}
+use Rattle.std.proofs.lemmas.List.{map-set}
+use Rattle.ev_scene.specs.Slots.{of_id, put, value_of}
+use Rattle.ev_scene.specs.Change.{apply}
+use Rattle.ev_scene.specs.declared.change.Change.{Change}
+use Rattle.ev_scene.specs.declared.change.Change.TheVariants as change
+use Rattle.ev_scene.specs.Board.{named, values_of}
+use Rattle.ev_scene.specs.Roll.{same_label, id_in, IsRoll}
+use Rattle.ev_scene.specs.declared.label.Label.{Label}
+use Rattle.ev_scene.proofs.Places.{of_id_map, id_low, id_high}
+use Rattle.ev_scene.proofs.Naming.{NamedBy, named_by, unnamed, free_name, own_value, added, removed, changed}
+
+-- a change leaves the id and the name
+apply_id : (c : Change) (o : Object) → (apply c o).id ≡ o.id
+apply_id (change.Place x y) o = refl
+apply_id (change.Side w h) o = refl
+apply_id (change.Appear on) o = refl
+apply_id (change.Paint color) o = refl
+apply_id (change.Treat op) o = refl
+apply_id (change.Lift layer) o = refl
+
+apply_name : (c : Change) (o : Object) → (apply c o).name ≡ o.name
+apply_name (change.Place x y) o = refl
+apply_name (change.Side w h) o = refl
+apply_name (change.Appear on) o = refl
+apply_name (change.Paint color) o = refl
+apply_name (change.Treat op) o = refl
+apply_name (change.Lift layer) o = refl
+
+module _ (states : List (Option (Held Object))) (ids : List (Label × ℕ)) (seen : List (Option (Held Object))) (roll : IsRoll states ids) (is : states ≡ seen) where
+  pub led_to : (name : List ℕ) (id : ℕ) → Some id ≡ id_in ids name → of_id (values_of seen) id ≡ named (values_of seen) name
+  led_to name id leads =
+      let P : List (Option (Held Object)) → Type 0 = λ seen. of_id (values_of seen) id ≡ named (values_of seen) name in
+      let by : NamedBy states name id = named_by states ids roll name id (sym leads) in
+      subst P is (of_id_map value_of states id ∙ ap (option_map value_of) by.there ∙ sym by.first)
+
+  pub led_id : (name : List ℕ) (id : ℕ) → Some id ≡ id_in ids name → Some id ≡ option_map (λ o. o.id) (named (values_of seen) name)
+  led_id name id leads =
+      let P : List (Option (Held Object)) → Type 0 = λ seen. Some id ≡ option_map (λ o. o.id) (named (values_of seen) name) in
+      let by : NamedBy states name id = named_by states ids roll name id (sym leads) in
+      subst P is (ap Some (sym by.own) ∙ sym (ap (option_map (λ o. o.id)) by.first))
+
+  pub led_nowhere : (name : List ℕ) → None ≡ id_in ids name → None ≡ named (values_of seen) name
+  led_nowhere name leads =
+      let P : List (Option (Held Object)) → Type 0 = λ seen. None ≡ named (values_of seen) name in
+      subst P is (sym (unnamed states ids roll name (sym leads)))
+
+  pub stands_there : (result : Option (Bor Object)) (id : ℕ) → option_copied result ≡ of_id (values_of seen) id → IfSome result (λ o. of_id (values_of seen) o.now.id ≡ Some o.now)
+  stands_there None id there = tt
+  stands_there (Some o) id there =
+      let P : List (Option (Held Object)) → Type 0 = λ seen. of_id (values_of seen) id ≡ Some o.now → o.now.id ≡ id in
+      let own : o.now.id ≡ id = subst P is (own_value states ids roll id o.now) (sym there) in
+      ap (of_id (values_of seen)) own ∙ sym there
+
+  pub added_to : (states' : List (Option (Held Object))) (ids' : List (Label × ℕ)) (s : Held Object) (name : List ℕ) (id : ℕ) (was : Option ℕ)
+      → s.value.id ≡ length seen + 1 → named (values_of seen) s.value.name ≡ None → name ≡ s.value.name → id ≡ s.value.id → states' ≡ states ++ Some s ∷ []
+      → ((q : Label) → lookup (same_label q) ids' ≡ cond (same_label (record { name = name }) q) (Some id) (lookup (same_label q) ids))
+      → was ≡ id_in ids name → length ids' ≡ length ids + (if is_some was then 0 else 1)
+      → IsRoll states' ids'
+  added_to states' ids' s name id was next free same_name same_id items leads old more =
+      let P : List (Option (Held Object)) → Type 0 = λ states. IsRoll states ids' in
+      let next' : s.value.id ≡ length states + 1 = next ∙ ap (λ seen. length seen + 1) (sym is) in
+      let free' : named (values_of states) s.value.name ≡ None = ap (λ seen. named (values_of seen) s.value.name) is ∙ free in
+      let none : was ≡ None = old ∙ ap (id_in ids) same_name ∙ free_name states ids roll s.value.name free' in
+      let leads' : (q : List ℕ) → id_in ids' q ≡ cond (same_label (record { name = s.value.name }) (record { name = q })) (Some s.value.id) (id_in ids q) =
+      λ q. leads (record { name = q }) ∙ ap (λ name. cond (same_label (record { name = name }) (record { name = q })) (Some id) (id_in ids q)) same_name
+      ∙ ap (λ id. cond (same_label (record { name = s.value.name }) (record { name = q })) (Some id) (id_in ids q)) same_id in
+      subst P (sym items) (added states ids ids' s roll next' free' leads' (more ∙ ap (λ was. length ids + (if is_some was then 0 else 1)) none))
+
+  pub removed_from : (ids' : List (Label × ℕ)) (name : List ℕ) (id : ℕ) → Some id ≡ id_in ids name
+      → ((q : Label) → lookup (same_label q) ids' ≡ cond (same_label (record { name = name }) q) None (lookup (same_label q) ids)) → length ids' + 1 ≡ length ids
+      → IsRoll (put states id None) ids'
+  removed_from ids' name id leads others fewer = removed states ids ids' name id roll (sym leads) (λ q. others (record { name = q })) fewer
+
+  pub led_low : (name : List ℕ) (id : ℕ) → Some id ≡ id_in ids name → 1 ≤ id
+  led_low name id leads = let by : NamedBy states name id = named_by states ids roll name id (sym leads) in id_low states id by.state by.there
+
+  pub led_high : (name : List ℕ) (id : ℕ) → Some id ≡ id_in ids name → id - 1 < length states
+  led_high name id leads = let by : NamedBy states name id = named_by states ids roll name id (sym leads) in id_high states id by.state by.there
+
+  pub changed_at : (id : ℕ) (s : Held Object) (c : Change) (o : Object) (serial : ℕ) → of_id states id ≡ Some s → o ≡ apply c s.value → IsRoll (put states id (Some (record { value = o; serial = serial }))) ids
+  changed_at id s c o serial there e =
+      changed states ids id s (record { value = o; serial = serial }) roll there (ap (λ o. o.id) e ∙ apply_id c s.value) (ap (λ o. o.name) e ∙ apply_name c s.value)
+
+  pub changed_values : (id : ℕ) (s : Held Object) (c : Change) (o : Object) (serial : ℕ) → of_id states id ≡ Some s → o ≡ apply c s.value
+      → values_of (put states id (Some (record { value = o; serial = serial }))) ≡ put (values_of seen) id (option_map (apply c) (of_id (values_of seen) id))
+  changed_values id s c o serial there e =
+      let P : List (Option (Held Object)) → Type 0 = λ seen. values_of (put states id (Some (record { value = o; serial = serial }))) ≡ put (values_of seen) id (option_map (apply c) (of_id (values_of seen) id)) in
+      let at : of_id (values_of states) id ≡ Some s.value = of_id_map value_of states id ∙ ap (option_map value_of) there in
+      subst P is (map-set (λ slot. option_map value_of slot) states (id - 1) (Some (record { value = o; serial = serial }))
+      ∙ ap (put (values_of states) id) (ap Some e ∙ sym (ap (option_map (apply c)) at)))

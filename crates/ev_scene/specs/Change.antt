@@ -1,0 +1,81 @@
+-- Changes of one object.
+use Rattle.std.specs.Prelude.{◌≡◌, ℕ, ℤ, pos, neg_ℤ, Bool, true, ◌&&◌, false, int_le, unsigned_abs, List, [], Some, None}
+use Rattle.ev_argb.specs.Argb.{Argb, clamped}
+use Rattle.ev_geom.specs.Area.{is_place, is_side, nowhere}
+use Rattle.ev_model.specs.declared.content.Content.{Content}
+use Rattle.ev_model.specs.declared.content.Content.TheVariants as content
+use Rattle.ev_model.specs.declared.content.Fill.TheVariants.{Filled}
+use Rattle.ev_model.specs.declared.content.Kind.{Kind}
+use Rattle.ev_model.specs.declared.content.Kind.TheVariants as kind
+use Rattle.ev_model.specs.declared.object.Object.{Object}
+use Rattle.ev_model.specs.declared.object.Op.TheVariants.{Blend}
+use Rattle.ev_scene.specs.declared.change.Change.{Change}
+use Rattle.ev_scene.specs.declared.change.Change.TheVariants as change
+
+-- an object after a change
+abbrev pub apply : Change → Object → Object
+apply (change.Place x y) o = record o { rect = record o.rect { x = x; y = y } }
+apply (change.Side w h) o = record o { rect = record o.rect { w = w; h = h } }
+apply (change.Appear on) o = record o { shown = on }
+apply (change.Paint color) o = record o { color = color }
+apply (change.Treat op) o = record o { op = op }
+apply (change.Lift layer) o = record o { layer = layer }
+
+-- from low to high
+abbrev pub is_between : ℤ → ℤ → ℤ → Bool
+is_between low high n = int_le low n && int_le n high
+
+-- layers lie from -32,768 to 32,767
+abbrev pub is_layer : ℤ → Bool
+is_layer n = is_between (neg_ℤ (pos 32768)) (pos 32767) n
+
+-- the sides of a canvas are 1 to 4096 pixels long
+abbrev pub is_canvas : ℤ → ℤ → Bool
+is_canvas w h = is_between (pos 1) (pos 4096) w && is_between (pos 1) (pos 4096) h
+
+abbrev pub is_channel : ℤ → Bool
+is_channel n = is_between (pos 0) (pos 255) n
+
+-- four numbers from 0 to 255
+unfoldable pub are_channels : ℤ → ℤ → ℤ → ℤ → Bool
+are_channels r g b a = is_channel r && is_channel g && is_channel b && is_channel a
+
+-- the colour of four such numbers, where none is above a
+unfoldable pub color_of : ℤ → ℤ → ℤ → ℤ → Argb
+color_of r g b a = clamped (unsigned_abs a) (unsigned_abs r) (unsigned_abs g) (unsigned_abs b)
+
+-- a change that leaves the layer, and whose numbers are in range
+abbrev pub IsLook : Change → Type 0
+IsLook (change.Place x y) = (is_place x ≡ true) × (is_place y ≡ true)
+IsLook (change.Side w h) = (is_side w ≡ true) × (is_side h ≡ true)
+IsLook (change.Appear on) = Unit {0}
+IsLook (change.Paint color) = Unit {0}
+IsLook (change.Treat op) = Unit {0}
+IsLook (change.Lift layer) = ⊥
+
+-- the numbers of a change are in range
+abbrev pub IsFit : Change → Type 0
+IsFit (change.Lift layer) = is_layer layer ≡ true
+IsFit other = IsLook other
+
+-- the content of a new object: an image fills it, without borders and with the centre on; a text is empty
+abbrev pub content_of : Kind → Content
+content_of kind.Rect = content.Rect
+content_of kind.Smart = content.Smart
+content_of kind.Image = content.Image (record { key = None; loaded = None; fill = Filled; border = record { l = 0; r = 0; t = 0; b = 0 }; center = true })
+content_of kind.Text = content.Text (record { key = None; loaded = None; text = [] })
+
+-- a new object: at 0, 0, without size, hidden, white, blended, in layer 0, and over it nothing
+abbrev pub fresh : ℕ → List ℕ → Kind → Object
+fresh id name kind = record {
+  id = id;
+  name = name;
+  rect = nowhere;
+  shown = false;
+  color = clamped 255 255 255 255;
+  op = Blend;
+  layer = pos 0;
+  clipper = None;
+  parent = None;
+  content = content_of kind;
+}

@@ -1,0 +1,128 @@
+// Changes of one object, and new objects.
+ghost use Rattle.std.specs.Prelude.{◌≡◌, ◌&&◌, true, Some, None, IfSome, unsigned_abs, if◌then◌else◌};
+ghost use Rattle.ev_geom.specs.Area.{is_place, is_side};
+ghost use Rattle.ev_model.specs.declared.content.Kind.TheVariants as kind;
+ghost use Rattle.ev_scene.specs.Change.{apply, is_between, is_layer, is_channel, are_channels, color_of, fresh, IsFit, IsLook};
+
+use ev_argb::Pixel;
+use ev_geom::{Rect, is_place, is_side};
+use ev_model::{Content, Name, Object, Op};
+
+// A change of one object. Its numbers are in range.
+#[derive(Drop)]
+pub enum Change {
+    Place { x: i64, y: i64 },
+    Side { w: i64, h: i64 },
+    Appear(bool),
+    Paint(Pixel),
+    Treat(Op),
+    Lift(i64),
+}
+
+// Changes an object.
+pub fn apply(change: &Change, object: &mut Object)
+    requires { IsFit change.now }
+    ensures { object.new ≡ apply change.now object.old }
+{
+    match *change {
+        Change::Place { x, y } => object.rect = object.rect.placed(x, y),
+        Change::Side { w, h } => object.rect = object.rect.sized(w, h),
+        Change::Appear(on) => object.shown = on,
+        Change::Paint(color) => object.color = color,
+        Change::Treat(op) => object.op = op,
+        Change::Lift(layer) => object.layer = layer as i32,
+    }
+}
+
+// A change of place, where both numbers are places.
+pub fn place(x: i64, y: i64) -> Option<Change>
+    ensures value { result ≡ (if is_place x && is_place y then Some (Change.Place x y) else None) }
+    ensures fit { IfSome result IsLook }
+{
+    if is_place(x) && is_place(y) {
+        Some(Change::Place { x, y })
+    } else {
+        None
+    }
+}
+
+// A change of size, where both numbers are sides.
+pub fn side(w: i64, h: i64) -> Option<Change>
+    ensures value { result ≡ (if is_side w && is_side h then Some (Change.Side w h) else None) }
+    ensures fit { IfSome result IsLook }
+{
+    if is_side(w) && is_side(h) {
+        Some(Change::Side { w, h })
+    } else {
+        None
+    }
+}
+
+// A change of colour, where all four numbers are channels.
+#[tactic(auto, unfolding(crate::specs::Change::are_channels))]
+pub fn paint(r: i64, g: i64, b: i64, a: i64) -> Option<Change>
+    ensures value { result ≡ (if are_channels r g b a then Some (Change.Paint (color_of r g b a)) else None) }
+    ensures fit { IfSome result IsLook }
+{
+    if is_channel(r) && is_channel(g) && is_channel(b) && is_channel(a) {
+        Some(Change::Paint(color_of(r, g, b, a)))
+    } else {
+        None
+    }
+}
+
+fn is_channel(n: i64) -> bool
+    ensures { result ≡ is_channel n }
+{
+    is_between(0, 255, n)
+}
+
+#[tactic(auto, unfolding(crate::specs::Change::color_of))]
+fn color_of(r: i64, g: i64, b: i64, a: i64) -> Pixel
+    requires red { is_channel r ≡ true }
+    requires green { is_channel g ≡ true }
+    requires blue { is_channel b ≡ true }
+    requires alpha { is_channel a ≡ true }
+    ensures { result ≡ color_of r g b a }
+{
+    Pixel::new(channel(a), channel(r), channel(g), channel(b))
+}
+
+fn channel(n: i64) -> u8
+    requires { is_channel n ≡ true }
+    ensures { result ≡ unsigned_abs n }
+{
+    n as u8
+}
+
+// Whether a number is from low to high.
+pub fn is_between(low: i64, high: i64, n: i64) -> bool
+    ensures { result ≡ is_between low high n }
+{
+    low <= n && n <= high
+}
+
+// Whether a number is a layer.
+pub fn is_layer(n: i64) -> bool
+    ensures { result ≡ is_layer n }
+{
+    is_between(-32_768, 32_767, n)
+}
+
+// A new rectangle.
+pub fn fresh_rect(id: u64, name: Name) -> Object
+    ensures { result ≡ fresh id name kind.Rect }
+{
+    Object {
+        id,
+        name,
+        rect: Rect::NOWHERE,
+        shown: false,
+        color: Pixel::new(255, 255, 255, 255),
+        op: Op::Blend,
+        layer: 0,
+        clipper: None,
+        parent: None,
+        content: Content::Rect,
+    }
+}

@@ -1,0 +1,184 @@
+// The objects of a scene, by id and by name.
+ghost use Rattle.std.specs.Prelude.{◌≡◌, ℕ, zero, ◌+◌, ◌<◌, ◌≤◌, ◌^◌, ◌++◌, ◌∷◌, [], length, OnOk, OnErr, IfOk, IfSome, Some, None, option_map, option_copied, is_some, true};
+ghost use Rattle.ev_state.specs.Held.{Held};
+ghost use Rattle.ev_model.specs.declared.object.Object.{Object};
+ghost use Rattle.ev_scene.specs.Slots.{of_id, put, live, value_of};
+ghost use Rattle.ev_scene.specs.Board.{named, values_of};
+ghost use Rattle.ev_scene.specs.Change.{apply, IsFit};
+
+use crate::NoMemory;
+use crate::change::{Change, apply};
+use crate::label::Label;
+use ev_model::{Name, Object};
+use ev_state::{Shared, Tally};
+use indexmap::IndexMap;
+use std::alloc::Global;
+use std::marker::Model;
+
+// The state of each id that was given, and the id of each name.
+#[derive(Drop)]
+pub struct Roll {
+    alloc: Global,
+    tally: Tally,
+    states: Vec<Option<Shared<Object>>>,
+    ids: IndexMap<Label, u64>,
+}
+
+impl Model for Roll {
+    ghost use Rattle.std.specs.Prelude.{◌-◌, min, length, vec_capacity};
+    ghost use Rattle.indexmap.specs.IndexMap.{spare};
+    ghost use Rattle.ev_scene.specs.Roll.{Entries, IsRoll};
+
+    ghost Value = { Entries };
+
+    ghost view = { λ r. record { made = r.tally; states = r.states.items; room = min (vec_capacity r.states - length r.states.items) (spare r.ids) } };
+
+    ghost invariant = { λ r. IsRoll r.states.items r.ids.entries };
+}
+
+impl Roll {
+    // No objects.
+    pub fn new(alloc: Global) -> Roll
+        ensures none { result.states ≡ [] }
+        ensures made { result.made ≡ 0 }
+    {
+        Roll {
+            alloc,
+            tally: Tally::new(),
+            states: Vec::new(alloc),
+            ids: IndexMap::new(alloc),
+        }
+    }
+
+    // Where states are made.
+    pub fn alloc(&self) -> Global {
+        self.alloc
+    }
+
+    // How many states were made.
+    pub fn made(&self) -> u64
+        ensures { result ≡ self.now.made }
+    {
+        self.tally.count()
+    }
+
+    // How many objects are there.
+    pub fn len(&self) -> usize
+        ensures { result ≡ length (live (values_of self.now.states)) }
+    {
+        self.ids.len()
+    }
+
+    // The id that comes next.
+    pub fn next_id(&self) -> u64
+        ensures { result ≡ length self.now.states + 1 }
+    {
+        self.states.len() as u64 + 1
+    }
+
+    // The object of a name.
+    pub fn named(&self, name: &Name) -> Option<&Object>
+        ensures value { option_copied result ≡ named (values_of self.now.states) name.now }
+        ensures there { IfSome result (λ o. of_id (values_of self.now.states) o.now.id ≡ Some o.now) }
+    {
+        match self.ids.get(&Label { name: *name }) {
+            Some(id) => self.object(*id),
+            None => None,
+        }
+    }
+
+    // The object of an id.
+    pub fn object(&self, id: u64) -> Option<&Object>
+        ensures { option_copied result ≡ of_id (values_of self.now.states) id }
+    {
+        match self.state(id) {
+            Some(state) => Some(state.get()),
+            None => None,
+        }
+    }
+
+    // The state of an id.
+    pub fn state(&self, id: u64) -> Option<&Shared<Object>>
+        ensures { option_copied result ≡ of_id self.now.states id }
+    {
+        let place = id.checked_sub(1)?;
+        self.states.get(place as usize)?.as_ref()
+    }
+
+    // Makes room for one more object.
+    pub fn reserve(&mut self) -> Result<(), NoMemory>
+        ensures states { self.new.states ≡ self.old.states }
+        ensures made { self.new.made ≡ self.old.made }
+        ensures ok { OnOk result (0 < self.new.room) }
+    {
+        self.states.reserve(1)?;
+        self.ids.reserve(1)
+    }
+
+    // A state for an object. It stands for no id yet.
+    pub fn make(&mut self, object: Object) -> Result<Shared<Object>, NoMemory>
+        requires { self.old.made < 2 ^ 63 }
+        ensures value { IfOk result (λ state. state.value ≡ object) }
+        ensures states { self.new.states ≡ self.old.states }
+        ensures room { self.new.room ≡ self.old.room }
+        ensures grows { self.old.made ≤ self.new.made }
+        ensures made { self.new.made ≤ self.old.made + 1 }
+    {
+        Shared::make(self.alloc, object, &mut self.tally)
+    }
+
+    // Puts a new object under the next id, where room was made for it.
+    pub fn add(&mut self, state: Shared<Object>)
+        requires room { 0 < self.old.room }
+        requires id { state.value.id ≡ length self.old.states + 1 }
+        requires name { named (values_of self.old.states) state.value.name ≡ None }
+        ensures states { self.new.states ≡ self.old.states ++ Some state ∷ [] }
+        ensures made { self.new.made ≡ self.old.made }
+    {
+        let id = state.get().id;
+        let label = Label {
+            name: state.get().name,
+        };
+        let Ok(()) = self.states.push(Some(state)) else {
+            unreachable!()
+        };
+        let Ok(_) = self.ids.insert(label, id) else {
+            unreachable!()
+        };
+    }
+
+    // Removes the object of a name, and says which id it had.
+    pub fn remove(&mut self, name: &Name) -> Option<u64>
+        ensures id { result ≡ option_map (λ o. o.id) (named (values_of self.old.states) name.now) }
+        ensures there { IfSome result (λ id. of_id (values_of self.old.states) id ≡ named (values_of self.old.states) name.now) }
+        ensures gone { IfSome result (λ id. self.new.states ≡ put self.old.states id None) }
+        ensures none { result ≡ None → self.new.states ≡ self.old.states }
+        ensures made { self.new.made ≡ self.old.made }
+    {
+        match self.ids.swap_remove(&Label { name: *name }) {
+            Some(id) => {
+                self.states[id as usize - 1] = None;
+                Some(id)
+            }
+            None => None,
+        }
+    }
+
+    // Changes the object of an id, whose state is copied first where others hold it.
+    pub fn change(&mut self, id: u64, change: &Change) -> Result<(), NoMemory>
+        requires there { is_some (of_id self.old.states id) ≡ true }
+        requires fit { IsFit change.now }
+        requires room { self.old.made < 2 ^ 63 }
+        ensures ok { OnOk result (values_of self.new.states
+            ≡ put (values_of self.old.states) id (option_map (apply change.now) (of_id (values_of self.old.states) id))) }
+        ensures err { OnErr result (self.new.states ≡ self.old.states) }
+        ensures grows { self.old.made ≤ self.new.made }
+        ensures made { self.new.made ≤ self.old.made + 1 }
+    {
+        if let Some(state) = &mut self.states[id as usize - 1] {
+            let object = state.edit(self.alloc, &mut self.tally)?;
+            apply(change, object);
+        }
+        Ok(())
+    }
+}
