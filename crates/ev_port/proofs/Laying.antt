@@ -63,13 +63,15 @@ lie_more frames marks updates pixels frame flat e = record {
   filled = filled_more frames frame flat.filled e;
 }
 
--- one frame more, which was laid behind the others
-pub laid : (frames : List Frame) (marks marks' : List ShownFrame) (updates updates' : List Area) (pixels pixels' : List Argb) (frame : Frame) (mark : ShownFrame)
-    → LieFlat frames marks updates pixels → length frame.pixels ≡ frame.w * frame.h → mark ≡ mark_of (length updates) (length pixels) frame
-    → marks' ≡ marks ++ mark ∷ [] → updates' ≡ updates ++ frame.updates → pixels' ≡ pixels ++ frame.pixels
+-- one frame more, which was laid behind the others with a mark of these numbers
+pub laid : (frames : List Frame) (marks marks' : List ShownFrame) (updates updates' : List Area) (pixels pixels' : List Argb) (frame : Frame) (w h updates_at pixels_at : ℕ)
+    → LieFlat frames marks updates pixels → length frame.pixels ≡ frame.w * frame.h
+    → w ≡ frame.w → h ≡ frame.h → updates_at ≡ length updates → pixels_at ≡ length pixels
+    → marks' ≡ marks ++ record { n = frame.number; w = w; h = h; updates_at = updates_at; updates = length frame.updates; pixels_at = pixels_at } ∷ []
+    → updates' ≡ updates ++ frame.updates → pixels' ≡ pixels ++ frame.pixels
     → LieFlat (frames ++ frame ∷ []) marks' updates' pixels'
-laid frames marks marks' updates updates' pixels pixels' frame mark flat e m new_marks new_updates new_pixels =
-    rw (new_marks, new_updates, new_pixels, m) (lie_more frames marks updates pixels frame flat e)
+laid frames marks marks' updates updates' pixels pixels' frame w h updates_at pixels_at flat filled width height from first new_marks new_updates new_pixels =
+    rw (new_marks, new_updates, new_pixels, width, height, from, first) (lie_more frames marks updates pixels frame flat filled)
 
 -- the frames that lie in lists are those that are read from them
 pub as_read : (frames : List Frame) (marks : List ShownFrame) (updates : List Area) (pixels : List Argb) → LieFlat frames marks updates pixels → LieFlat (frames_of marks updates pixels) marks updates pixels

@@ -9,7 +9,8 @@ use ev_argb::Picture;
 use ev_geom::Rect;
 use std::io::{Read, Write};
 
-/// A source over a reader, as standard input. An error of the reader is a fault.
+/// A source over a reader, as standard input: `InSource::new(rt.reader())`. An error of the reader is a
+/// fault (docs/ARCHITECTURE.md, The outside).
 #[derive(Drop)]
 pub struct InSource<R: Read + Drop> {
     reader: R,
@@ -67,8 +68,8 @@ impl<R: Read + Drop> Source for InSource<R> {
     }
 }
 
-/// A sink over a writer, as standard output. Each piece goes out whole before its call ends, and an
-/// error of the writer is a fault.
+/// A sink over a writer, as standard output: `OutSink::new(io::writer(&rt))`. Each piece goes out whole
+/// before its call ends, and an error of the writer is a fault (docs/ARCHITECTURE.md, The outside).
 #[derive(Drop)]
 pub struct OutSink<W: Write + Drop> {
     writer: W,
@@ -108,11 +109,12 @@ impl<W: Write + Drop> Sink for OutSink<W> {
     }
 }
 
-/// A screen that takes each frame and keeps nothing. It never fails.
+/// A screen that takes each frame and keeps nothing. It never fails (docs/ARCHITECTURE.md, The outside).
 #[derive(Drop)]
 pub struct NoScreen;
 
 impl NoScreen {
+    /// Another such screen.
     pub fn new() -> NoScreen {
         NoScreen
     }

@@ -19,3 +19,6 @@ pub use mem_source::MemSource;
 pub use mem_store::MemStore;
 pub use outside::{Failed, Screen, Sink, Source, Store, StoreErr};
 pub use std::alloc::AllocError as NoMemory;
+
+#[cfg(test)]
+mod tests;

@@ -24,8 +24,8 @@ pub struct ScreenRoom {
     pub pixels: usize,
 }
 
-/// A frame that was shown: its number, its size in pixels, and which updates and pixels it has among
-/// those of all frames: `updates` rectangles from `updates_at` on, and w*h pixels from `pixels_at` on.
+/// A frame that was shown: its number and its size in pixels. Among the updates and pixels of all frames
+/// it has `updates` rectangles from `updates_at` on, and w*h pixels, rows first, from `pixels_at` on.
 #[derive(Clone, Copy, Debug, PartialEq, Eq)]
 pub struct ShownFrame {
     pub n: u64,
@@ -36,8 +36,9 @@ pub struct ShownFrame {
     pub pixels_at: usize,
 }
 
-/// A screen that keeps its frames, in room that it takes when it is made. It fails at the calls whose
-/// numbers it was given, counted from 1, and where a frame is larger than the room that is left.
+/// A screen that keeps its frames, in room that it takes when it is made (docs/ARCHITECTURE.md, The
+/// outside). It fails at the calls of `present` whose numbers it was given, counted from 1, and where a
+/// frame is larger than the room that is left. Nothing is shown then.
 #[derive(Drop)]
 pub struct MemScreen {
     frames: Vec<ShownFrame>,
@@ -63,7 +64,7 @@ impl Model for MemScreen {
 }
 
 impl MemScreen {
-    /// A screen with this room.
+    /// A screen with this room. `NoMemory`: the room found no memory.
     pub fn new(alloc: Global, room: ScreenRoom, failing: Vec<u64>) -> Result<MemScreen, NoMemory>
         ensures { IfOk result (λ screen. screen ≡ record { frames = []; room = room; calls = no_calls failing.items }) }
     {

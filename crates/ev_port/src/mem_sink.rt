@@ -6,12 +6,14 @@ ghost use Rattle.ev_port.specs.Memory.{write_fails, after_write};
 ghost use Rattle.ev_port.specs.Told.{GrowsBy, GrowsPart};
 
 use crate::calls::Calls;
+use crate::room::append;
 use crate::{Failed, NoMemory, Sink};
 use std::alloc::Global;
 use std::marker::Model;
 
-/// A sink that keeps what is written, in room that it takes when it is made. It fails at the calls
-/// whose numbers it was given, counted from 1, and where a piece is larger than the room that is left.
+/// A sink that keeps what is written, in room that it takes when it is made (docs/ARCHITECTURE.md, The
+/// outside). It fails at the calls of `write` whose numbers it was given, counted from 1, and where a
+/// piece is larger than the room that is left. Nothing is appended then.
 #[derive(Drop)]
 pub struct MemSink {
     bytes: Vec<u8>,
@@ -31,7 +33,7 @@ impl Model for MemSink {
 }
 
 impl MemSink {
-    /// A sink with room for so many bytes.
+    /// A sink with room for so many bytes. `NoMemory`: the room found no memory.
     pub fn new(alloc: Global, room: usize, failing: Vec<u64>) -> Result<MemSink, NoMemory>
         ensures { IfOk result (λ sink. sink ≡ record { written = []; room = room; calls = no_calls failing.items }) }
     {
@@ -62,14 +64,12 @@ impl Sink for MemSink {
         ensures fails { is_err result ≡ write_fails self.old piece.now }
         ensures after { self.new ≡ after_write self.old piece.now }
     {
-        if self.calls.is_listed()
-            || self.room < piece.len()
-            || self.bytes.extend_from_slice(piece).is_err()
-        {
+        if self.calls.is_listed() || self.room < piece.len() {
             self.calls.fail();
             return Err(Failed);
         }
         self.calls.pass();
+        append(&mut self.bytes, piece);
         self.room -= piece.len();
         Ok(())
     }

@@ -9,7 +9,8 @@ use crate::calls::Calls;
 use crate::{Failed, Source};
 use std::marker::Model;
 
-/// A source over bytes, which fails at the calls whose numbers it was given, counted from 1.
+/// A source over bytes (docs/ARCHITECTURE.md, The outside). It fails at the calls of `read` whose
+/// numbers it was given, counted from 1, and nothing else changes then.
 #[derive(Drop)]
 pub struct MemSource {
     bytes: Vec<u8>,

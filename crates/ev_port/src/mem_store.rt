@@ -10,7 +10,8 @@ use crate::calls::Calls;
 use crate::{LARGEST_FILE, Store, StoreErr, StoredFile};
 use std::marker::Model;
 
-/// A store over files. It fails at the calls whose numbers it was given, counted from 1.
+/// A store over files (docs/ARCHITECTURE.md, The outside). It fails at the calls of `fetch` whose
+/// numbers it was given, counted from 1, and nothing else changes then.
 #[derive(Drop)]
 pub struct MemStore {
     files: Vec<StoredFile>,

@@ -1,111 +1,186 @@
--- Whole edits: an object taken out and put back, added or removed.
-use Rattle.std.proofs.Common.{◌≡◌, ◌≢◌, ℕ, ℤ, ◌+◌, true, List, [], ◌∷◌, Some, None, inl, inr, is_some, if◌then◌else◌, ◌==◌, length, refl, sym, subst, ◌∙◌, ap, arith}
+-- Whole edits: an object taken out, put back, added or forgotten.
+use Rattle.std.proofs.Common.{◌≡◌, ◌≢◌, ℕ, ℤ, ◌≤◌, ◌<◌, ◌+◌, true, List, [], ◌∷◌, Option, Some, None, inl, inr, is_some, Result, Ok, Err, OnErr, if◌then◌else◌, ◌==◌, length, vec_capacity, refl, sym, subst, ◌∙◌, ap, suc, eq-eqb, arith}
 use Rattle.std.proofs.lemmas.Bool.Decides.{eqb_tells}
 use Rattle.std.specs.HashMap.{hash_map_len}
 use Rattle.ev_stack.specs.declared.chain.Chain.{Chain}
+use Rattle.ev_stack.specs.declared.stack.Stack.{Stack}
 use Rattle.ev_stack.specs.Order.{layer_in, is_in, IsApart, IsLayered, without}
-use Rattle.ev_stack.specs.Links.{put_after, IsPlace, above_of, below_of, layer_of, order_of, IsChain, IsSound, IsStack}
-use Rattle.ev_stack.proofs.Lists.{apart_without, length-without, length-put_after_place, layer_in-without, layer_in-put_after, layer_in-put_after_new, in_apart, layer_in_absent}
-use Rattle.ev_stack.proofs.Layers.{IsLayered-without}
-use Rattle.ev_stack.proofs.Chains.{order_of-IsChain, IsSound-IsChain}
+use Rattle.ev_stack.specs.Links.{previous_in, put_after, IsPlace, above_of, below_of, layer_of, order_of, IsChain, IsSound}
+use Rattle.ev_stack.specs.Tops.{tops_of, with_top, without_top, in_layer}
+use Rattle.ev_stack.specs.Stacks.{IsStack, IsLoose}
+use Rattle.ev_stack.proofs.Lists.{neq-eqb, next_in_absent, previous_in_absent, apart_without, length-without, length-put_after_place, layer_in-without, layer_in-put_after, layer_in-put_after_new, in_apart, layer_in_absent}
+use Rattle.ev_stack.proofs.Layering.{IsLayered-without}
+use Rattle.ev_stack.proofs.Chains.{order_of-IsChain, IsSound-IsChain, is_there}
+use Rattle.ev_stack.proofs.Tops.{tops_of-put_after, tops_of-without, IsLayered-tops_of, length-tops_of}
 
--- an object that was taken out is fresh, and there is room for it
-pub out_fresh : (old mid : Chain) (id : ℕ) → IsStack old → order_of mid ≡ without (order_of old) id → IsApart id (order_of mid)
-out_fresh old mid id stack order = rw order (apart_without (order_of old) id stack.sound.distinct)
+-- the index of a stack
+pub tops_layered : (stack : Stack) → stack.layers.tops.items ≡ tops_of (order_of stack.chain) → IsLayered (order_of stack.chain) → IsLayered stack.layers.tops.items
+tops_layered stack tops layered = rw tops (IsLayered-tops_of (order_of stack.chain) layered)
 
-pub out_room : (old mid : Chain) (id : ℕ) → IsStack old → is_in (order_of old) id ≡ true → order_of mid ≡ without (order_of old) id → hash_map_len mid.nodes ≡ hash_map_len old.nodes → hash_map_len mid.nodes ≡ length (order_of mid) + 1
-out_room old mid id stack there order len =
-    let shorter = length-without (order_of old) id there in
-    let count = stack.count in
-    rw order (omega (arith, shorter, count, len))
+pub tops_fit : (stack : Stack) → IsStack stack → length stack.layers.tops.items ≤ hash_map_len stack.chain.nodes
+tops_fit stack is =
+    let fewer = length-tops_of (order_of stack.chain) in
+    let count = is.count in
+    rw is.tops (omega (arith, fewer, count))
 
-pub no_end : (old : Chain) (id : ℕ) → IsStack old → is_in (order_of old) id ≡ true → id ≢ 0
-no_end old id stack there = in_apart (order_of old) id 0 there stack.sound.apart
+pub tops_room : (stack : Stack) (id : ℕ) → IsLoose stack id → length stack.layers.tops.items < vec_capacity stack.layers.tops
+tops_room stack id loose =
+    let fewer = length-tops_of (order_of stack.chain) in
+    let room = loose.room in
+    let same = ap length loose.tops in
+    omega (arith, fewer, room, same)
 
--- an object in its new place
-pub stack_linked : (old mid new : Chain) (id place : ℕ) (layer : ℤ) → ((q : ℕ) → q ≢ id → layer_of mid q ≡ layer_in (order_of mid) q) → IsSound new
-    → order_of new ≡ put_after 0 (order_of mid) place (id, layer) → ((q : ℕ) → layer_of new q ≡ (if q == id then Some layer else layer_of mid q))
-    → IsPlace 0 (order_of mid) place → IsApart id (order_of mid) → hash_map_len mid.nodes ≡ length (order_of mid) + 1 → hash_map_len new.nodes ≡ hash_map_len mid.nodes
-    → IsLayered (order_of new) → IsStack new
-stack_linked old mid new id place layer whole sound order layers at fresh room len layered = record {
+-- an object taken out of the order and of the index
+pub taken_out : (old new : Stack) (id : ℕ) (layer : ℤ) (below : ℕ) (instead : Option ℕ) → IsStack old → layer_in (order_of old.chain) id ≡ Some layer
+    → IsSound new.chain → order_of new.chain ≡ without (order_of old.chain) id → ((q : ℕ) → layer_of new.chain q ≡ layer_of old.chain q)
+    → hash_map_len new.chain.nodes ≡ hash_map_len old.chain.nodes → below ≡ below_of old.chain id → instead ≡ in_layer (layer_of new.chain) below layer
+    → new.layers.tops.items ≡ without_top old.layers.tops.items id layer instead → vec_capacity old.layers.tops ≤ vec_capacity new.layers.tops → IsLoose new id
+taken_out old new id layer below instead stack its sound order layers len lower other tops room = record {
   sound = sound;
-  count = let longer = length-put_after_place 0 (order_of mid) place (id, layer) at in rw order (omega (arith, longer, room, len));
-  whole = λ q. layers q ∙ rw order (elim (eqb_tells q id) [
-    | inl here ↦ rw here.0 (sym (ap (layer_in (put_after 0 (order_of mid) place (id, layer))) here.1 ∙ layer_in-put_after_new 0 (order_of mid) place (id, layer) at fresh))
-    | inr away ↦ rw away.0 (whole q away.1 ∙ sym (layer_in-put_after 0 (order_of mid) place (id, layer) q (λ e. away.1 (sym e))))
-  ]);
-  layered = layered;
+  object = in_apart (order_of old.chain) id 0 there stack.sound.apart;
+  apart = rw order (apart_without (order_of old.chain) id stack.sound.distinct);
+  node = rw (layers id) (is_there old.chain (order_of old.chain) id stack.sound there);
+  whole = λ q away. layers q ∙ stack.whole q ∙ rw order (sym (layer_in-without (order_of old.chain) id q away));
+  count = let count = stack.count in rw order (omega (arith, shorter, count, len));
+  layered = rw order (IsLayered-without (order_of old.chain) id stack.layered);
+  tops = tops ∙ rw (other, lower, layers (below_of old.chain id), stack.sound.below id, stack.tops, order) (sym out);
+  room = let least = stack.room in rw order (omega (arith, shorter, least, room));
 }
-
--- the other objects keep their layers while one is taken out
-pub out_whole : (old mid : Chain) (id : ℕ) → IsStack old → order_of mid ≡ without (order_of old) id → ((q : ℕ) → layer_of mid q ≡ layer_of old q) → (q : ℕ) → q ≢ id → layer_of mid q ≡ layer_in (order_of mid) q
-out_whole old mid id stack order layers q away = layers q ∙ stack.whole q ∙ rw order (sym (layer_in-without (order_of old) id q away))
-
-pub out_layered : (old mid : Chain) (id : ℕ) → IsStack old → order_of mid ≡ without (order_of old) id → IsLayered (order_of mid)
-out_layered old mid id stack order = rw order (IsLayered-without (order_of old) id stack.layered)
-
--- a removed object
-pub stack_removed : (old mid new : Chain) (id : ℕ) → IsStack old → is_in (order_of old) id ≡ true → IsSound mid → order_of mid ≡ without (order_of old) id
-    → ((q : ℕ) → layer_of mid q ≡ layer_of old q) → hash_map_len mid.nodes ≡ hash_map_len old.nodes
-    → ((q : ℕ) → above_of new q ≡ above_of mid q) → ((q : ℕ) → below_of new q ≡ below_of mid q) → ((q : ℕ) → layer_of new q ≡ (if q == id then None else layer_of mid q))
-    → hash_map_len mid.nodes ≡ hash_map_len new.nodes + 1 → IsStack new × (order_of new ≡ without (order_of old) id)
-stack_removed old mid new id stack there sound order layers len above below gone fewer = (
-  record {
-    sound = IsSound-IsChain new (order_of mid) chain;
-    whole = λ q. gone q ∙ rw same (elim (eqb_tells q id) [
-      | inl here ↦ rw here.0 (sym (layer_in_absent (order_of mid) q (subst (λ n. IsApart n (order_of mid)) (sym here.1) (out_fresh old mid id stack order))))
-      | inr away ↦ rw away.0 (out_whole old mid id stack order layers q away.1)
-    ]);
-    count = let room = out_room old mid id stack there order len in rw same (omega (arith, room, fewer));
-    layered = rw same (out_layered old mid id stack order);
-  },
-  same ∙ order,
-)
   where
-    chain : IsChain new (order_of mid)
-    chain = record {
-      above = λ q. above q ∙ sound.above q;
-      below = λ q. below q ∙ sound.below q;
-      layers = λ q layer found.
-          let away : q ≢ id = in_apart (order_of mid) q id (ap is_some found) (out_fresh old mid id stack order) in
-          let now = gone q in
-          now ∙ elim (eqb_tells q id) [ inl here ↦ absurd (away here.1) | inr other ↦ rw other.0 (sound.layers q layer found) ];
-      distinct = sound.distinct;
-      apart = sound.apart;
-      fits = let room = out_room old mid id stack there order len in omega (arith, room, fewer);
-    }
+    there : is_in (order_of old.chain) id ≡ true
+    there = ap is_some its
 
-    same : order_of new ≡ order_of mid
-    same = order_of-IsChain new (order_of mid) chain
+    shorter : suc (length (without (order_of old.chain) id)) ≡ length (order_of old.chain)
+    shorter = length-without (order_of old.chain) id there
 
--- a new node that no link leads to
-pub sound_inserted : (old new : Chain) (id : ℕ) (layer : ℤ) → IsStack old → layer_in (order_of old) id ≡ None
-    → ((q : ℕ) → above_of new q ≡ above_of old q) → ((q : ℕ) → below_of new q ≡ below_of old q) → ((q : ℕ) → layer_of new q ≡ (if q == id then Some layer else layer_of old q))
-    → hash_map_len new.nodes ≡ hash_map_len old.nodes + 1 → IsChain new (order_of old)
-sound_inserted old new id layer stack fresh above below layers len = record {
-  above = λ q. above q ∙ stack.sound.above q;
-  below = λ q. below q ∙ stack.sound.below q;
-  layers = λ q l found.
-      let now = layers q in
-      now ∙ elim (eqb_tells q id) [ inl here ↦ absurd (let none = ap (layer_in (order_of old)) here.1 ∙ fresh in cc) | inr away ↦ rw away.0 (stack.sound.layers q l found) ];
-  distinct = stack.sound.distinct;
-  apart = stack.sound.apart;
-  fits = let most = stack.sound.fits in omega (arith, most, len);
+    none : layer_of old.chain 0 ≡ None
+    none = stack.whole 0 ∙ layer_in_absent (order_of old.chain) 0 stack.sound.apart
+
+    out : tops_of (without (order_of old.chain) id) ≡ without_top (tops_of (order_of old.chain)) id layer (in_layer (layer_of old.chain) (previous_in 0 (order_of old.chain) id) layer)
+    out = tops_of-without (layer_of old.chain) 0 (order_of old.chain) id layer its stack.sound.distinct stack.layered none stack.sound.layers
+
+-- an object put in the order and in the index
+pub put_back : (old new : Stack) (id place : ℕ) (layer : ℤ) → IsLoose old id → IsPlace 0 (order_of old.chain) place → IsLayered (put_after 0 (order_of old.chain) place (id, layer))
+    → IsSound new.chain → order_of new.chain ≡ put_after 0 (order_of old.chain) place (id, layer) → ((q : ℕ) → layer_of new.chain q ≡ (if q == id then Some layer else layer_of old.chain q))
+    → hash_map_len new.chain.nodes ≡ hash_map_len old.chain.nodes → new.layers.tops.items ≡ with_top old.layers.tops.items id layer place
+    → vec_capacity old.layers.tops ≤ vec_capacity new.layers.tops → IsStack new
+put_back old new id place layer loose at layered sound order layers len tops room = record {
+  sound = sound;
+  whole = λ q. layers q ∙ rw order (elim (eqb_tells q id) [
+    | inl here ↦ rw here.0 (sym (ap (layer_in (put_after 0 (order_of old.chain) place (id, layer))) here.1 ∙ layer_in-put_after_new 0 (order_of old.chain) place (id, layer) at loose.apart))
+    | inr away ↦ rw away.0 (loose.whole q away.1 ∙ sym (layer_in-put_after 0 (order_of old.chain) place (id, layer) q (λ e. away.1 (sym e))))
+  ]);
+  count = let count = loose.count in rw order (omega (arith, longer, count, len));
+  layered = rw order layered;
+  tops = tops ∙ rw (loose.tops, order) (sym (tops_of-put_after 0 (order_of old.chain) place id layer at loose.sound.apart loose.sound.distinct layered));
+  room = let least = loose.room in rw order (omega (arith, longer, least, room));
 }
+  where
+    longer : length (put_after 0 (order_of old.chain) place (id, layer)) ≡ suc (length (order_of old.chain))
+    longer = length-put_after_place 0 (order_of old.chain) place (id, layer) at
 
--- nothing changed
-pub sound_same : (old new : Chain) → IsStack old → ((q : ℕ) → above_of new q ≡ above_of old q) → ((q : ℕ) → below_of new q ≡ below_of old q) → ((q : ℕ) → layer_of new q ≡ layer_of old q) → hash_map_len new.nodes ≡ hash_map_len old.nodes → IsStack new × (order_of new ≡ order_of old)
-sound_same old new stack above below layers len = (
+-- no link leads to or from an object that was taken out
+pub loose_alone : (old : Stack) (id : ℕ) → IsLoose old id → (above_of old.chain id ≡ 0) × (below_of old.chain id ≡ 0)
+loose_alone old id loose = (
+  loose.sound.above id ∙ next_in_absent 0 (order_of old.chain) id loose.apart loose.object,
+  loose.sound.below id ∙ previous_in_absent 0 (order_of old.chain) id loose.apart loose.object,
+)
+
+-- the node of an object that was taken out is removed
+pub forgotten : (old new : Stack) (id : ℕ) → IsLoose old id → ((q : ℕ) → above_of new.chain q ≡ above_of old.chain q) → ((q : ℕ) → below_of new.chain q ≡ below_of old.chain q)
+    → ((q : ℕ) → layer_of new.chain q ≡ (if q == id then None else layer_of old.chain q)) → hash_map_len old.chain.nodes ≡ hash_map_len new.chain.nodes + 1
+    → new.layers.tops.items ≡ old.layers.tops.items → vec_capacity new.layers.tops ≡ vec_capacity old.layers.tops → IsStack new × (order_of new.chain ≡ order_of old.chain)
+forgotten old new id loose above below gone fewer tops room = (
   record {
-    sound = IsSound-IsChain new (order_of old) chain;
-    whole = λ q. rw same (layers q ∙ stack.whole q);
-    count = rw same (len ∙ stack.count);
-    layered = rw same stack.layered;
+    sound = IsSound-IsChain new.chain (order_of old.chain) chain;
+    whole = λ q. gone q ∙ rw same (elim (eqb_tells q id) [
+      | inl here ↦ rw here.0 (sym (layer_in_absent (order_of old.chain) q (subst (λ n. IsApart n (order_of old.chain)) (sym here.1) loose.apart)))
+      | inr away ↦ rw away.0 (loose.whole q away.1)
+    ]);
+    count = let count = loose.count in rw same (omega (arith, count, fewer));
+    layered = rw same loose.layered;
+    tops = rw same (tops ∙ loose.tops);
+    room = let least = loose.room in rw same (omega (arith, least, room));
   },
   same,
 )
   where
-    chain : IsChain new (order_of old)
+    chain : IsChain new.chain (order_of old.chain)
+    chain = record {
+      above = λ q. above q ∙ loose.sound.above q;
+      below = λ q. below q ∙ loose.sound.below q;
+      layers = λ q layer found.
+          let away : q ≢ id = in_apart (order_of old.chain) q id (ap is_some found) loose.apart in
+          gone q ∙ rw (neq-eqb q id away) (loose.sound.layers q layer found);
+      distinct = loose.sound.distinct;
+      apart = loose.sound.apart;
+      fits = let count = loose.count in omega (arith, count, fewer);
+    }
+
+    same : order_of new.chain ≡ order_of old.chain
+    same = order_of-IsChain new.chain (order_of old.chain) chain
+
+-- who isn't in the list is apart from it
+apart_absent : (xs : List (ℕ × ℤ)) (id : ℕ) → layer_in xs id ≡ None → IsApart id xs
+apart_absent [] id none = tt
+apart_absent (one ∷ rest) id none =
+    elim (eqb_tells one.0 id) [
+      | inl here ↦ absurd (let found : Some one.1 ≡ None = rw here.0 at none in cc)
+      | inr away ↦ (away.1, apart_absent rest id (rw away.0 at none))
+    ]
+
+-- a new node that no link leads to
+pub admitted : (old new : Stack) (id : ℕ) (layer : ℤ) → IsStack old → layer_in (order_of old.chain) id ≡ None → id ≢ 0
+    → ((q : ℕ) → above_of new.chain q ≡ above_of old.chain q) → ((q : ℕ) → below_of new.chain q ≡ below_of old.chain q)
+    → ((q : ℕ) → layer_of new.chain q ≡ (if q == id then Some layer else layer_of old.chain q)) → hash_map_len new.chain.nodes ≡ hash_map_len old.chain.nodes + 1
+    → new.layers.tops.items ≡ old.layers.tops.items → hash_map_len old.chain.nodes + 1 ≤ vec_capacity new.layers.tops → IsLoose new id × (order_of new.chain ≡ order_of old.chain)
+admitted old new id layer stack fresh object above below layers len tops room = (
+  record {
+    sound = IsSound-IsChain new.chain (order_of old.chain) chain;
+    object = object;
+    apart = rw same (apart_absent (order_of old.chain) id fresh);
+    node = rw (layers id, eq-eqb id id refl) refl;
+    whole = λ q away. layers q ∙ rw (neq-eqb q id away, same) (stack.whole q);
+    count = let count = stack.count in rw same (omega (arith, count, len));
+    layered = rw same stack.layered;
+    tops = rw same (tops ∙ stack.tops);
+    room = let count = stack.count in rw same (omega (arith, count, room));
+  },
+  same,
+)
+  where
+    chain : IsChain new.chain (order_of old.chain)
+    chain = record {
+      above = λ q. above q ∙ stack.sound.above q;
+      below = λ q. below q ∙ stack.sound.below q;
+      layers = λ q l found.
+          let away : q ≢ id = λ e. (let none = ap (layer_in (order_of old.chain)) e ∙ fresh in cc) in
+          layers q ∙ rw (neq-eqb q id away) (stack.sound.layers q l found);
+      distinct = stack.sound.distinct;
+      apart = stack.sound.apart;
+      fits = let most = stack.sound.fits in omega (arith, most, len);
+    }
+
+    same : order_of new.chain ≡ order_of old.chain
+    same = order_of-IsChain new.chain (order_of old.chain) chain
+
+-- nothing changed but the room
+pub unchanged : (old new : Stack) → IsStack old → ((q : ℕ) → above_of new.chain q ≡ above_of old.chain q) → ((q : ℕ) → below_of new.chain q ≡ below_of old.chain q)
+    → ((q : ℕ) → layer_of new.chain q ≡ layer_of old.chain q) → hash_map_len new.chain.nodes ≡ hash_map_len old.chain.nodes
+    → new.layers.tops.items ≡ old.layers.tops.items → vec_capacity old.layers.tops ≤ vec_capacity new.layers.tops → IsStack new × (order_of new.chain ≡ order_of old.chain)
+unchanged old new stack above below layers len tops room = (
+  record {
+    sound = IsSound-IsChain new.chain (order_of old.chain) chain;
+    whole = λ q. rw same (layers q ∙ stack.whole q);
+    count = rw same (len ∙ stack.count);
+    layered = rw same stack.layered;
+    tops = rw same (tops ∙ stack.tops);
+    room = let least = stack.room in rw same (omega (arith, least, room));
+  },
+  same,
+)
+  where
+    chain : IsChain new.chain (order_of old.chain)
     chain = record {
       above = λ q. above q ∙ stack.sound.above q;
       below = λ q. below q ∙ stack.sound.below q;
@@ -115,17 +190,8 @@ sound_same old new stack above below layers len = (
       fits = let most = stack.sound.fits in omega (arith, most, len);
     }
 
-    same : order_of new ≡ order_of old
-    same = order_of-IsChain new (order_of old) chain
-
--- who isn't in the list is apart from it
-pub apart_absent : (xs : List (ℕ × ℤ)) (id : ℕ) → layer_in xs id ≡ None → IsApart id xs
-apart_absent [] id none = tt
-apart_absent (one ∷ rest) id none =
-    elim (eqb_tells one.0 id) [
-      | inl here ↦ absurd (let found : Some one.1 ≡ None = rw here.0 at none in cc)
-      | inr away ↦ (away.1, apart_absent rest id (rw away.0 at none))
-    ]
+    same : order_of new.chain ≡ order_of old.chain
+    same = order_of-IsChain new.chain (order_of old.chain) chain
 
 -- another object is still a place when one is taken out
 pub still_there : (xs : List (ℕ × ℤ)) (id other : ℕ) (layer : ℤ) → layer_in xs other ≡ Some layer → id ≢ other → layer_in (without xs id) other ≡ Some layer
@@ -142,8 +208,6 @@ empty_chain chain none bottom top = record {
   fits = omega arith;
 }
 
-pub empty_stack : (chain : Chain) → chain.nodes.entries ≡ [] → chain.bottom ≡ 0 → chain.top ≡ 0 → IsStack chain × (order_of chain ≡ [])
-empty_stack chain none bottom top =
-    let is = empty_chain chain none bottom top in
-    let order : order_of chain ≡ [] = order_of-IsChain chain [] is in
-    (record { sound = IsSound-IsChain chain [] is; whole = λ id. rw (order, none) refl; count = rw (order, none) refl; layered = rw order tt }, order)
+pub on_err : {T E P : Type 0} (r : Result T E) → P → OnErr r P
+on_err (Ok value) p = tt
+on_err (Err error) p = p

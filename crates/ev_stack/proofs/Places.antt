@@ -1,58 +1,11 @@
--- Places in a list: where an object of a layer belongs.
-use Rattle.std.proofs.Common.{◌≡◌, ◌≢◌, ℕ, ℤ, pos, ◌<◌, ◌≤◌, ◌+◌, ◌-◌, suc, true, false, List, [], ◌∷◌, Option, inl, inr, if◌then◌else◌, refl, sym, ap, eq-eqb, arith}
+-- The plain edits are edits after a place.
+use Rattle.std.proofs.Common.{◌≡◌, ◌≢◌, ℕ, ℤ, true, false, List, [], ◌∷◌, Some, is_some, inl, inr, if◌then◌else◌, refl, sym, subst, ap, eq-eqb}
 use Rattle.std.proofs.lemmas.Bool.Decides.{eqb_tells}
 use Rattle.std.specs.Prelude.{int_lt}
-use Rattle.std.specs.Option.{unwrap_or}
-use Rattle.ev_stack.specs.Order.{is_in, IsApart, IsDistinct, put_top, put_bottom, put_above, put_below}
-use Rattle.ev_stack.specs.Links.{previous_in, put_after, IsPlace, walk, last_up_to, last_below}
-use Rattle.ev_stack.proofs.Lists.{neq-eqb, previous_in_apart}
-
-pub none_done : (n : ℕ) → n - 0 ≡ n
-none_done n = omega arith
-
-pub left_more : (at end : ℕ) → at < end → end - at ≡ suc (end - (at + 1))
-left_more at end below = omega arith
-
-none_left : (at end : ℕ) → end ≤ at → end - at ≡ 0
-none_left at end done = omega arith
-
-pub top_at_end : (above : ℕ → ℕ) (layers : ℕ → Option ℤ) (counter end place : ℕ) (layer : ℤ) (known : ℕ) → counter < end → last_up_to place (walk above layers (end - counter) place) layer ≡ known → above place ≡ 0 → place ≡ known
-top_at_end above layers counter end place layer known below same done =
-    let all : last_up_to place (walk above layers (suc (end - (counter + 1))) place) layer ≡ known = rw (left_more counter end below) at same in
-    rw (eq-eqb (above place) 0 done) at all
-
-pub top_found : (above : ℕ → ℕ) (layers : ℕ → Option ℤ) (counter end place next : ℕ) (layer : ℤ) (known : ℕ) → counter < end → last_up_to place (walk above layers (end - counter) place) layer ≡ known → above place ≡ next → next ≢ 0 → int_lt layer (unwrap_or (layers next) (pos 0)) ≡ true → place ≡ known
-top_found above layers counter end place next layer known below same led some stop =
-    let all : last_up_to place (walk above layers (suc (end - (counter + 1))) place) layer ≡ known = rw (left_more counter end below) at same in
-    rw (led, neq-eqb next 0 some, stop) at all
-
-pub top_on : (above : ℕ → ℕ) (layers : ℕ → Option ℤ) (counter end place next : ℕ) (layer : ℤ) (known : ℕ) → counter < end → last_up_to place (walk above layers (end - counter) place) layer ≡ known → above place ≡ next → next ≢ 0 → int_lt layer (unwrap_or (layers next) (pos 0)) ≡ false → last_up_to next (walk above layers (end - (counter + 1)) next) layer ≡ known
-top_on above layers counter end place next layer known below same led some go =
-    let all : last_up_to place (walk above layers (suc (end - (counter + 1))) place) layer ≡ known = rw (left_more counter end below) at same in
-    rw (led, neq-eqb next 0 some, go) at all
-
-pub top_over : (above : ℕ → ℕ) (layers : ℕ → Option ℤ) (counter end place : ℕ) (layer : ℤ) (known : ℕ) → end ≤ counter → last_up_to place (walk above layers (end - counter) place) layer ≡ known → place ≡ known
-top_over above layers counter end place layer known over same = rw (none_left counter end over) at same
-
-pub bottom_at_end : (above : ℕ → ℕ) (layers : ℕ → Option ℤ) (counter end place : ℕ) (layer : ℤ) (known : ℕ) → counter < end → last_below place (walk above layers (end - counter) place) layer ≡ known → above place ≡ 0 → place ≡ known
-bottom_at_end above layers counter end place layer known below same done =
-    let all : last_below place (walk above layers (suc (end - (counter + 1))) place) layer ≡ known = rw (left_more counter end below) at same in
-    rw (eq-eqb (above place) 0 done) at all
-
-pub bottom_found : (above : ℕ → ℕ) (layers : ℕ → Option ℤ) (counter end place next : ℕ) (layer : ℤ) (known : ℕ) → counter < end → last_below place (walk above layers (end - counter) place) layer ≡ known → above place ≡ next → next ≢ 0 → int_lt (unwrap_or (layers next) (pos 0)) layer ≡ false → place ≡ known
-bottom_found above layers counter end place next layer known below same led some stop =
-    let all : last_below place (walk above layers (suc (end - (counter + 1))) place) layer ≡ known = rw (left_more counter end below) at same in
-    rw (led, neq-eqb next 0 some, stop) at all
-
-pub bottom_on : (above : ℕ → ℕ) (layers : ℕ → Option ℤ) (counter end place next : ℕ) (layer : ℤ) (known : ℕ) → counter < end → last_below place (walk above layers (end - counter) place) layer ≡ known → above place ≡ next → next ≢ 0 → int_lt (unwrap_or (layers next) (pos 0)) layer ≡ true → last_below next (walk above layers (end - (counter + 1)) next) layer ≡ known
-bottom_on above layers counter end place next layer known below same led some go =
-    let all : last_below place (walk above layers (suc (end - (counter + 1))) place) layer ≡ known = rw (left_more counter end below) at same in
-    rw (led, neq-eqb next 0 some, go) at all
-
-pub bottom_over : (above : ℕ → ℕ) (layers : ℕ → Option ℤ) (counter end place : ℕ) (layer : ℤ) (known : ℕ) → end ≤ counter → last_below place (walk above layers (end - counter) place) layer ≡ known → place ≡ known
-bottom_over above layers counter end place layer known over same = rw (none_left counter end over) at same
-
--- ---- the plain edits are edits after a place
+use Rattle.ev_stack.specs.Order.{layer_in, is_in, IsApart, IsDistinct, IsLayered, put_top, put_bottom, put_above, put_below}
+use Rattle.ev_stack.specs.Links.{previous_in, put_after, IsPlace, last_up_to, last_below}
+use Rattle.ev_stack.proofs.Lists.{neq-eqb, previous_in_apart, in_is_place, in_apart, previous_is_place}
+use Rattle.ev_stack.proofs.Layering.{IsLayered-put_top, IsLayered-put_bottom, IsLayered-put_above, IsLayered-put_below}
 
 last_up_to_apart : (start : ℕ) (xs : List (ℕ × ℤ)) (layer : ℤ) (other : ℕ) → IsApart other xs → start ≢ other → last_up_to start xs layer ≢ other
 last_up_to_apart start [] layer other apart away = away
@@ -118,3 +71,30 @@ last_below-IsPlace start [] layer = refl
 last_below-IsPlace start (one ∷ rest) layer =
     let later = last_below-IsPlace one.0 rest layer in
     elim (int_lt one.1 layer) as (λ b. IsPlace start (one ∷ rest) (if b then last_below one.0 rest layer else start)) [ true ↦ inr later | false ↦ inl refl ]
+
+-- an edit of the list is an object put after this place, where its layer belongs
+pub record IsPut (xs : List (ℕ × ℤ)) (place id : ℕ) (layer : ℤ) (new : List (ℕ × ℤ)) : Type 0 where
+  pub at : IsPlace 0 xs place
+  pub layered : IsLayered (put_after 0 xs place (id, layer))
+  pub order : put_after 0 xs place (id, layer) ≡ new
+
+put_layered : (xs : List (ℕ × ℤ)) (place id : ℕ) (layer : ℤ) (new : List (ℕ × ℤ)) → IsPlace 0 xs place → put_after 0 xs place (id, layer) ≡ new → IsLayered new → IsPut xs place id layer new
+put_layered xs place id layer new at order layered = record { at = at; layered = subst IsLayered (sym order) layered; order = order }
+
+pub put_at_top : (xs : List (ℕ × ℤ)) (place id : ℕ) (layer : ℤ) → place ≡ last_up_to 0 xs layer → IsApart 0 xs → IsDistinct xs → IsLayered xs → IsPut xs place id layer (put_top xs id layer)
+put_at_top xs place id layer is apart distinct layered =
+    put_layered xs place id layer (put_top xs id layer) (rw is (last_up_to-IsPlace 0 xs layer)) (rw is (put_top-place 0 xs id layer apart distinct)) (IsLayered-put_top xs id layer layered)
+
+pub put_at_bottom : (xs : List (ℕ × ℤ)) (place id : ℕ) (layer : ℤ) → place ≡ last_below 0 xs layer → IsApart 0 xs → IsDistinct xs → IsLayered xs → IsPut xs place id layer (put_bottom xs id layer)
+put_at_bottom xs place id layer is apart distinct layered =
+    put_layered xs place id layer (put_bottom xs id layer) (rw is (last_below-IsPlace 0 xs layer)) (rw is (put_bottom-place 0 xs id layer apart distinct)) (IsLayered-put_bottom xs id layer layered)
+
+pub put_right_above : (xs : List (ℕ × ℤ)) (other id : ℕ) (layer : ℤ) → layer_in xs other ≡ Some layer → IsApart 0 xs → IsLayered xs → IsPut xs other id layer (put_above xs other id layer)
+put_right_above xs other id layer its apart layered =
+    let there : is_in xs other ≡ true = ap is_some its in
+    put_layered xs other id layer (put_above xs other id layer) (in_is_place 0 xs other there) (put_above-place 0 xs other id layer (λ e. in_apart xs other 0 there apart (sym e))) (IsLayered-put_above xs other id layer its layered)
+
+pub put_right_below : (xs : List (ℕ × ℤ)) (place other id : ℕ) (layer : ℤ) → place ≡ previous_in 0 xs other → layer_in xs other ≡ Some layer → IsApart 0 xs → IsDistinct xs → IsLayered xs → IsPut xs place id layer (put_below xs other id layer)
+put_right_below xs place other id layer is its apart distinct layered =
+    let there : is_in xs other ≡ true = ap is_some its in
+    put_layered xs place id layer (put_below xs other id layer) (rw is (previous_is_place 0 xs other there)) (rw is (put_below-place 0 xs other id layer there apart distinct)) (IsLayered-put_below xs other id layer its layered)

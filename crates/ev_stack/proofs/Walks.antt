@@ -1,5 +1,5 @@
 -- Walks from bottom to top.
-use Rattle.std.proofs.Common.{◌≡◌, ◌≢◌, ℕ, ℤ, true, List, [], ◌∷◌, Option, Some, None, zero, suc, inl, inr, refl, sym, ◌∙◌, ap, eq-eqb}
+use Rattle.std.proofs.Common.{◌≡◌, ◌≢◌, ◌-◌, ◌+◌, ◌<◌, ℕ, ℤ, true, List, [], ◌∷◌, Option, Some, None, zero, suc, inl, inr, refl, sym, ◌∙◌, ap, eq-eqb, arith}
 use Rattle.std.proofs.lemmas.Bool.Decides.{eqb_tells}
 use Rattle.ev_stack.specs.Order.{is_in, IsApart, IsDistinct, bottom_in, above_in, at_place, ids_of, ids_above, ids_from}
 use Rattle.ev_stack.specs.Links.{next_in, id_or_none, climbed}
@@ -26,6 +26,13 @@ above_in-absent (one ∷ rest) id apart = rw (neq-eqb one.0 id apart.0) (above_i
 
 is_in-later : (one : ℕ × ℤ) (rest : List (ℕ × ℤ)) (id : ℕ) → is_in rest id ≡ true → is_in (one ∷ rest) id ≡ true
 is_in-later one rest id later = elim (eqb_tells one.0 id) [ inl same ↦ rw same.0 refl | inr differ ↦ rw differ.0 later ]
+
+-- what is left of a loop's steps
+pub none_done : (n : ℕ) → n - 0 ≡ n
+none_done n = omega arith
+
+pub left_more : (at end : ℕ) → at < end → end - at ≡ suc (end - (at + 1))
+left_more at end below = omega arith
 
 -- so many steps up from the bottom lead to the object at that place
 pub at_place-climbed : (above : ℕ → Option ℕ) (xs : List (ℕ × ℤ)) (place : ℕ) → ((id : ℕ) → is_in xs id ≡ true → above id ≡ above_in xs id) → IsDistinct xs → climbed above place (bottom_in xs) ≡ at_place xs place

@@ -2,7 +2,7 @@
 use Rattle.std.specs.Prelude.{◌≡◌, ℕ, ℤ, pos, Bool, ◌||◌, ◌⊎◌, List, [], ◌∷◌, Option, Some, None, if◌then◌else◌, ◌==◌, ◌≤◌, nat_eq, suc, zero, is_some, length, int_lt}
 use Rattle.std.specs.Option.{option_map, unwrap_or}
 use Rattle.std.specs.HashMap.{get, hash_map_len}
-use Rattle.ev_stack.specs.Order.{layer_in, IsApart, IsDistinct, IsLayered}
+use Rattle.ev_stack.specs.Order.{layer_in, IsApart, IsDistinct}
 use Rattle.ev_stack.specs.declared.chain.Node.{Node}
 use Rattle.ev_stack.specs.declared.chain.Chain.{Chain}
 
@@ -75,13 +75,6 @@ pub record IsChain (chain : Chain) (order : List (ℕ × ℤ)) : Type 0 where
 -- the links and layers are those of the walk
 abbrev pub IsSound : Chain → Type 0
 IsSound chain = IsChain chain (order_of chain)
-
--- the list is layered, and has exactly the objects that have a node
-pub record IsStack (chain : Chain) : Type 0 where
-  pub sound : IsSound chain
-  pub whole : (id : ℕ) → layer_of chain id ≡ layer_in (order_of chain) id
-  pub count : hash_map_len chain.nodes ≡ length (order_of chain)
-  pub layered : IsLayered (order_of chain)
 
 -- where so many steps upward from an object or from none lead
 abbrev pub climbed : (ℕ → Option ℕ) → ℕ → Option ℕ → Option ℕ

@@ -1,11 +1,11 @@
-// A list of objects kept by links, in which each edit takes a few look-ups.
-ghost use Rattle.std.specs.Prelude.{◌≡◌, ◌≢◌, [], ◌+◌, ◌≤◌, ℕ, pos, true, Some, None, IsSome, length, nat_eq, is_some, int_lt, OnOk, OnErr, ◌==◌, if◌then◌else◌};
-ghost use Rattle.std.specs.Option.{unwrap_or};
+// A list of objects that is kept by links, in which each edit takes a few look-ups.
+ghost use Rattle.std.specs.Prelude.{◌≡◌, ◌≢◌, [], ◌+◌, ◌^◌, ◌≤◌, ◌<◌, ℕ, pos, true, Some, None, IsSome, length, nat_eq, is_some, int_lt, OnOk, OnErr, ◌==◌, if◌then◌else◌};
 ghost use Rattle.std.specs.HashMap.{get, hash_map_len, IsUnchanged};
-ghost use Rattle.ev_stack.specs.Order.{layer_in, is_in, bottom_in, above_in, at_place, ids_of, ids_above, ids_from, IsOrder, without, put_top, to_top, to_bottom, to_above, to_below, IsApart};
-ghost use Rattle.ev_stack.specs.Links.{above_of, below_of, layer_of, is_place, order_of, id_or_none, put_after, last_up_to, last_below, IsPlace, IsSound, IsStack};
+ghost use Rattle.ev_stack.specs.Order.{is_in, without, IsApart};
+ghost use Rattle.ev_stack.specs.Links.{above_of, below_of, layer_of, is_place, order_of, put_after, IsPlace, IsSound};
 
-use std::alloc::{AllocError, Global};
+use crate::NoMemory;
+use std::alloc::Global;
 use std::collections::HashMap;
 
 /// The id that stands for both ends of a chain.
@@ -30,8 +30,10 @@ pub struct Chain {
 impl Chain {
     /// No objects.
     pub fn new(alloc: Global) -> Chain
-        ensures stack { IsStack result }
+        ensures sound { IsSound result }
         ensures order { order_of result ≡ [] }
+        ensures layers { (id : ℕ) → layer_of result id ≡ None }
+        ensures len { hash_map_len result.nodes ≡ 0 }
     {
         Chain {
             nodes: HashMap::new(alloc),
@@ -40,8 +42,8 @@ impl Chain {
         }
     }
 
-    // The id above an id, or the bottom one above the end.
-    fn above(&self, id: u64) -> u64
+    /// The object directly above another, the lowest above the end, the end where there is none.
+    pub fn above(&self, id: u64) -> u64
         ensures { result ≡ above_of self.now id }
     {
         if id == END {
@@ -53,7 +55,8 @@ impl Chain {
         }
     }
 
-    fn below(&self, id: u64) -> u64
+    /// The object directly below another, the topmost below the end, the end where there is none.
+    pub fn below(&self, id: u64) -> u64
         ensures { result ≡ below_of self.now id }
     {
         if id == END {
@@ -65,7 +68,8 @@ impl Chain {
         }
     }
 
-    fn layer(&self, id: u64) -> Option<i32>
+    /// The layer of an object that has a node.
+    pub fn layer(&self, id: u64) -> Option<i32>
         ensures { result ≡ layer_of self.now id }
     {
         match self.nodes.get(&id) {
@@ -132,15 +136,15 @@ impl Chain {
         }
     }
 
-    // Takes an object out of the order. Its node and its layer stay.
-    fn unlink(&mut self, id: u64)
+    /// Takes an object out of the order, and gives the one below it. Its node and its layer stay.
+    pub fn unlink(&mut self, id: u64) -> u64
         requires sound { IsSound self.old }
         requires there { is_in (order_of self.old) id ≡ true }
         ensures sound { IsSound self.new }
         ensures order { order_of self.new ≡ without (order_of self.old) id }
         ensures layers { (other : ℕ) → layer_of self.new other ≡ layer_of self.old other }
         ensures len { hash_map_len self.new.nodes ≡ hash_map_len self.old.nodes }
-        ensures alone { (above_of self.new id ≡ 0) × (below_of self.new id ≡ 0) }
+        ensures below { result ≡ below_of self.old id }
     {
         let Node {
             layer,
@@ -157,10 +161,11 @@ impl Chain {
                 above: END,
             },
         );
+        below
     }
 
-    // Puts an object that has a node directly above a place, which is an object or the end.
-    fn link(&mut self, id: u64, layer: i32, place: u64)
+    /// Puts an object that has a node directly above a place, which is an object or the end.
+    pub fn link(&mut self, id: u64, layer: i32, place: u64)
         requires sound { IsSound self.old }
         requires place { IsPlace 0 (order_of self.old) place }
         requires fresh { IsApart id (order_of self.old) }
@@ -185,14 +190,16 @@ impl Chain {
         self.set_below(above, id);
     }
 
-    fn node_count(&self) -> usize
-        ensures { result ≡ hash_map_len self.now.nodes }
+    /// How many objects have a node.
+    pub fn node_count(&self) -> usize
+        ensures count { result ≡ hash_map_len self.now.nodes }
+        ensures bound { result < 2 ^ 63 }
     {
         self.nodes.len()
     }
 
-    // Adds a node that no link leads to.
-    fn insert(&mut self, id: u64, layer: i32) -> Result<(), AllocError>
+    /// Adds a node that no link leads to.
+    pub fn insert(&mut self, id: u64, layer: i32) -> Result<(), NoMemory>
         requires fresh { layer_of self.old id ≡ None }
         requires object { id ≢ 0 }
         ensures above { (other : ℕ) → above_of self.new other ≡ above_of self.old other }
@@ -211,8 +218,8 @@ impl Chain {
         Ok(())
     }
 
-    // Removes a node that no link leads to or from.
-    fn forget(&mut self, id: u64)
+    /// Removes a node that no link leads to or from.
+    pub fn forget(&mut self, id: u64)
         requires alone { (above_of self.old id ≡ 0) × (below_of self.old id ≡ 0) }
         requires object { id ≢ 0 }
         requires there { is_some (layer_of self.old id) ≡ true }
@@ -223,190 +230,4 @@ impl Chain {
     {
         let _ = self.nodes.remove(&id);
     }
-
-    // The place at the top of a layer.
-    fn top_place(&self, layer: i32) -> u64
-        ensures { result ≡ last_up_to 0 (order_of self.now) layer }
-    {
-        let mut place = END;
-        'up: for _ in 0..self.node_count() {
-            let next = self.above(place);
-            if next == END {
-                return place;
-            }
-            if is_lower(layer, self.layer_or_zero(next)) {
-                return place;
-            }
-            place = next;
-        }
-        place
-    }
-
-    // The place at the bottom of a layer.
-    fn bottom_place(&self, layer: i32) -> u64
-        ensures { result ≡ last_below 0 (order_of self.now) layer }
-    {
-        let mut place = END;
-        'up: for _ in 0..self.node_count() {
-            let next = self.above(place);
-            if next == END {
-                return place;
-            }
-            if !is_lower(self.layer_or_zero(next), layer) {
-                return place;
-            }
-            place = next;
-        }
-        place
-    }
-
-    fn layer_or_zero(&self, id: u64) -> i32
-        ensures { result ≡ unwrap_or (layer_of self.now id) (pos 0) }
-    {
-        self.layer(id).unwrap_or(0)
-    }
-
-    /// The layer of an object.
-    pub fn layer_of(&self, id: u64) -> Option<i32>
-        requires { IsStack self.now }
-        ensures { result ≡ layer_in (order_of self.now) id }
-    {
-        self.layer(id)
-    }
-
-    /// How many objects there are.
-    pub fn len(&self) -> usize
-        requires { IsStack self.now }
-        ensures len { result ≡ length (order_of self.now) }
-        ensures order { IsOrder (order_of self.now) }
-    {
-        self.node_count()
-    }
-
-    /// The lowest object.
-    pub fn bottom(&self) -> Option<u64>
-        requires { IsStack self.now }
-        ensures bottom { result ≡ bottom_in (order_of self.now) }
-        ensures all { ids_from (order_of self.now) result ≡ ids_of (order_of self.now) }
-    {
-        id_or_none(self.above(END))
-    }
-
-    /// The object directly above another.
-    pub fn next_above(&self, id: u64) -> Option<u64>
-        requires { IsStack self.now }
-        ensures above { result ≡ above_in (order_of self.now) id }
-        ensures rest { ids_from (order_of self.now) result ≡ ids_above (order_of self.now) id }
-    {
-        if id == END {
-            return None;
-        }
-        id_or_none(self.above(id))
-    }
-
-    /// The object at a place, counted from the bottom.
-    pub fn at(&self, place: usize) -> Option<u64>
-        requires { IsStack self.now }
-        ensures { result ≡ at_place (order_of self.now) place }
-    {
-        let mut found = self.bottom();
-        'up: for _ in 0..place {
-            let Some(id) = found else {
-                return None;
-            };
-            found = self.next_above(id);
-        }
-        found
-    }
-
-    /// Moves an object to the top of a layer.
-    pub fn move_to_top(&mut self, id: u64, layer: i32)
-        requires stack { IsStack self.old }
-        requires there { is_in (order_of self.old) id ≡ true }
-        ensures stack { IsStack self.new }
-        ensures order { order_of self.new ≡ to_top (order_of self.old) id layer }
-    {
-        self.unlink(id);
-        let place = self.top_place(layer);
-        self.link(id, layer, place);
-    }
-
-    /// Moves an object to the bottom of a layer.
-    pub fn move_to_bottom(&mut self, id: u64, layer: i32)
-        requires stack { IsStack self.old }
-        requires there { is_in (order_of self.old) id ≡ true }
-        ensures stack { IsStack self.new }
-        ensures order { order_of self.new ≡ to_bottom (order_of self.old) id layer }
-    {
-        self.unlink(id);
-        let place = self.bottom_place(layer);
-        self.link(id, layer, place);
-    }
-
-    /// Moves an object directly above another of this layer.
-    pub fn move_above(&mut self, id: u64, layer: i32, other: u64)
-        requires stack { IsStack self.old }
-        requires there { is_in (order_of self.old) id ≡ true }
-        requires other { layer_in (order_of self.old) other ≡ Some layer }
-        requires differ { id ≢ other }
-        ensures stack { IsStack self.new }
-        ensures order { order_of self.new ≡ to_above (order_of self.old) other id layer }
-    {
-        self.unlink(id);
-        self.link(id, layer, other);
-    }
-
-    /// Moves an object directly below another of this layer.
-    pub fn move_below(&mut self, id: u64, layer: i32, other: u64)
-        requires stack { IsStack self.old }
-        requires there { is_in (order_of self.old) id ≡ true }
-        requires other { layer_in (order_of self.old) other ≡ Some layer }
-        requires differ { id ≢ other }
-        ensures stack { IsStack self.new }
-        ensures order { order_of self.new ≡ to_below (order_of self.old) other id layer }
-    {
-        self.unlink(id);
-        let place = self.below(other);
-        self.link(id, layer, place);
-    }
-
-    /// Adds an object at the top of a layer.
-    pub fn push_top(&mut self, id: u64, layer: i32) -> Result<(), AllocError>
-        requires stack { IsStack self.old }
-        requires fresh { layer_in (order_of self.old) id ≡ None }
-        requires object { id ≢ 0 }
-        ensures stack { IsStack self.new }
-        ensures ok { OnOk result (order_of self.new ≡ put_top (order_of self.old) id layer) }
-        ensures err { OnErr result (order_of self.new ≡ order_of self.old) }
-    {
-        if let Err(error) = self.insert(id, layer) {
-            return Err(error);
-        }
-        let place = self.top_place(layer);
-        self.link(id, layer, place);
-        Ok(())
-    }
-
-    /// Removes an object.
-    pub fn remove(&mut self, id: u64)
-        requires stack { IsStack self.old }
-        requires there { is_in (order_of self.old) id ≡ true }
-        ensures stack { IsStack self.new }
-        ensures order { order_of self.new ≡ without (order_of self.old) id }
-    {
-        self.unlink(id);
-        self.forget(id);
-    }
-}
-
-fn is_lower(layer: i32, other: i32) -> bool
-    ensures { result ≡ int_lt layer other }
-{
-    layer < other
-}
-
-fn id_or_none(id: u64) -> Option<u64>
-    ensures { result ≡ id_or_none id }
-{
-    if id == END { None } else { Some(id) }
 }

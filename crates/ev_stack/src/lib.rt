@@ -2,7 +2,9 @@
 #![tactic(auto)]
 
 mod chain;
+mod layers;
 mod siblings;
+mod stack;
 
 pub use siblings::{Siblings, StackErr};
 pub use std::alloc::AllocError as NoMemory;

@@ -5,7 +5,7 @@ ghost use Rattle.ev_stack.specs.Order.{layer_in, bottom_in, above_in, at_place, 
 ghost use Rattle.ev_stack.specs.Calls.{place_fault, known_fault, raised, lowered, relayered, placed_above, placed_below};
 
 use crate::NoMemory;
-use crate::chain::Chain;
+use crate::stack::Stack;
 use std::alloc::Global;
 use std::marker::Model;
 
@@ -25,18 +25,19 @@ pub enum StackErr {
 /// their ids, which are numbers from 1.
 #[derive(Drop)]
 pub struct Siblings {
-    chain: Chain,
+    stack: Stack,
 }
 
 impl Model for Siblings {
     ghost use Rattle.std.specs.Prelude.{ℕ, ℤ, List};
-    ghost use Rattle.ev_stack.specs.Links.{order_of, IsStack};
+    ghost use Rattle.ev_stack.specs.Links.{order_of};
+    ghost use Rattle.ev_stack.specs.Stacks.{IsStack};
 
     ghost Value = { List (ℕ × ℤ) };
 
-    ghost view = { λ siblings. order_of siblings.chain };
+    ghost view = { λ siblings. order_of siblings.stack.chain };
 
-    ghost invariant = { λ siblings. IsStack siblings.chain };
+    ghost invariant = { λ siblings. IsStack siblings.stack };
 }
 
 impl Siblings {
@@ -45,7 +46,7 @@ impl Siblings {
         ensures { result ≡ [] }
     {
         Siblings {
-            chain: Chain::new(alloc),
+            stack: Stack::new(alloc),
         }
     }
 
@@ -54,14 +55,14 @@ impl Siblings {
         ensures len { result ≡ length self.now }
         ensures order { IsOrder self.now }
     {
-        self.chain.len()
+        self.stack.len()
     }
 
     /// Whether there are no objects.
     pub fn is_empty(&self) -> bool
         ensures { result ≡ (length self.now == 0) }
     {
-        self.chain.len() == 0
+        self.stack.len() == 0
     }
 
     /// The object at a place, counted from 0 at the bottom. None from the top on. This walks up from
@@ -69,7 +70,7 @@ impl Siblings {
     pub fn at(&self, place: usize) -> Option<u64>
         ensures { result ≡ at_place self.now place }
     {
-        self.chain.at(place)
+        self.stack.at(place)
     }
 
     /// The lowest object. None where there is no object. From here `next_above` leads to each object
@@ -78,7 +79,7 @@ impl Siblings {
         ensures bottom { result ≡ bottom_in self.now }
         ensures all { ids_from self.now result ≡ ids_of self.now }
     {
-        self.chain.bottom()
+        self.stack.bottom()
     }
 
     /// The object directly above this one. None for the topmost, and where no object has the id.
@@ -86,14 +87,14 @@ impl Siblings {
         ensures above { result ≡ above_in self.now id }
         ensures rest { ids_from self.now result ≡ ids_above self.now id }
     {
-        self.chain.next_above(id)
+        self.stack.next_above(id)
     }
 
     /// The layer of an object. None where no object has the id.
     pub fn layer_of(&self, id: u64) -> Option<i32>
         ensures { result ≡ layer_in self.now id }
     {
-        self.chain.layer_of(id)
+        self.stack.layer_of(id)
     }
 
     /// Adds an object at the top of a layer.
@@ -105,7 +106,7 @@ impl Siblings {
         ensures ok { OnOk result (self.new ≡ put_top self.old id layer) }
         ensures err { OnErr result (self.new ≡ self.old) }
     {
-        self.chain.push_top(id, layer)
+        self.stack.push_top(id, layer)
     }
 
     /// Moves an object to the top of its layer (docs/SCRIPT.md, `raise`).
@@ -116,9 +117,9 @@ impl Siblings {
         ensures ok { OnOk result (self.new ≡ raised self.old id) }
         ensures err { OnErr result (self.new ≡ self.old) }
     {
-        match self.chain.layer_of(id) {
+        match self.stack.layer_of(id) {
             Some(own) => {
-                self.chain.move_to_top(id, own);
+                self.stack.move_to_top(id, own, own);
                 Ok(())
             }
             None => Err(StackErr::Unknown),
@@ -133,9 +134,9 @@ impl Siblings {
         ensures ok { OnOk result (self.new ≡ lowered self.old id) }
         ensures err { OnErr result (self.new ≡ self.old) }
     {
-        match self.chain.layer_of(id) {
+        match self.stack.layer_of(id) {
             Some(own) => {
-                self.chain.move_to_bottom(id, own);
+                self.stack.move_to_bottom(id, own);
                 Ok(())
             }
             None => Err(StackErr::Unknown),
@@ -151,10 +152,10 @@ impl Siblings {
         ensures ok { OnOk result (self.new ≡ relayered self.old id layer) }
         ensures err { OnErr result (self.new ≡ self.old) }
     {
-        match self.chain.layer_of(id) {
+        match self.stack.layer_of(id) {
             Some(own) => {
                 if own != layer {
-                    self.chain.move_to_top(id, layer);
+                    self.stack.move_to_top(id, own, layer);
                 }
                 Ok(())
             }
@@ -170,9 +171,9 @@ impl Siblings {
         ensures ok { OnOk result (self.new ≡ without self.old id) }
         ensures err { OnErr result (self.new ≡ self.old) }
     {
-        match self.chain.layer_of(id) {
-            Some(_) => {
-                self.chain.remove(id);
+        match self.stack.layer_of(id) {
+            Some(own) => {
+                self.stack.remove(id, own);
                 Ok(())
             }
             None => Err(StackErr::Unknown),
@@ -189,7 +190,7 @@ impl Siblings {
         ensures err { OnErr result (self.new ≡ self.old) }
     {
         let layer = self.shared_layer(id, other)?;
-        self.chain.move_above(id, layer, other);
+        self.stack.move_above(id, layer, other);
         Ok(())
     }
 
@@ -203,7 +204,7 @@ impl Siblings {
         ensures err { OnErr result (self.new ≡ self.old) }
     {
         let layer = self.shared_layer(id, other)?;
-        self.chain.move_below(id, layer, other);
+        self.stack.move_below(id, layer, other);
         Ok(())
     }
 
@@ -214,7 +215,7 @@ impl Siblings {
         ensures other { IfOk result (λ layer. layer_in self.now other ≡ Some layer) }
         ensures differ { OnOk result (id ≢ other) }
     {
-        match (self.chain.layer_of(id), self.chain.layer_of(other)) {
+        match (self.stack.layer_of(id), self.stack.layer_of(other)) {
             (Some(layer), Some(beside)) => {
                 if id == other {
                     return Err(StackErr::Itself);

@@ -1,0 +1,8 @@
+pub mod Words
+pub mod Classes
+pub mod Args
+pub mod Verbs
+pub mod Value
+pub mod Lines
+pub mod Examples
+pub mod Parts

@@ -1,0 +1,141 @@
+-- A script that is played line by line.
+use Rattle.std.proofs.Common.{◌≡◌, ℕ, ◌+◌, List, [], ◌∷◌, ◌++◌, map, Bool, true, false, Option, refl, ap, ap₂, subst, sym, ◌∙◌, append_assoc, ◌==◌, ◌<◌, length, length-append, add_assoc, arith}
+use Rattle.std.proofs.lemmas.List.{append-nil}
+use Rattle.std.proofs.lemmas.Grind.{flat_map-append}
+use Rattle.ev_port.specs.Told.{GrowsBy, grows_on, grows_by_none}
+use Rattle.ev_port.specs.Causes.{RoseBy, rose_by_none, rose_by_on}
+use Rattle.ev_model.specs.Answer.{Answer}
+use Rattle.ev_model.specs.Text.{reply_text, text}
+use Rattle.ev_model.specs.declared.command.Command.TheVariants as command
+use Rattle.ev_model.specs.declared.command.Edit.TheVariants as edit
+use Rattle.ev_lang.specs.Value.{by_value}
+use Rattle.ev_lang.specs.Words.{onto_first}
+use Rattle.ev_lang.specs.Lines.{lines, line_of, first_line, after_line}
+use Rattle.ev_lang.specs.declared.line.Line.{Line}
+use Rattle.ev_lang.specs.declared.line.Line.TheVariants as line
+use Rattle.ev_script.specs.declared.session.Session.{Session}
+use Rattle.ev_script.specs.Machine.{State, Turn, Step, Plays, opening, shown, losses_of, lost_frames}
+use Rattle.ev_script.specs.Outside.{Outside, Whole, Part}
+use Rattle.ev_script.specs.Session.{StandsFor, Carried, Carries}
+use Rattle.ev_script.specs.Play.{script_lines, Played, Stopped}
+
+-- the lines of a script that isn't empty
+lines_split : (b : ℕ) (bs : List ℕ) → lines (b ∷ bs) ≡ first_line (b ∷ bs) ∷ lines (after_line (b ∷ bs))
+lines_split b bs = split_at (b == 10) b bs refl
+  where
+    split_at : (t : Bool) (b : ℕ) (bs : List ℕ) → (b == 10) ≡ t → lines (b ∷ bs) ≡ first_line (b ∷ bs) ∷ lines (after_line (b ∷ bs))
+    split_at true b bs is = rw is refl
+    split_at false b [] is = rw is refl
+    split_at false b (c ∷ bs) is = rw is (ap (onto_first b) (split_at (c == 10) c bs refl))
+
+-- the same, by what the lines say
+says_first : (b : ℕ) (bs : List ℕ) (line : Line) (after : List ℕ) → line ≡ line_of (first_line (b ∷ bs)) → after ≡ after_line (b ∷ bs) → script_lines (b ∷ bs) ≡ line ∷ script_lines after
+says_first b bs line after is behind =
+    ap (map line_of) (lines_split b bs) ∙ ap₂ (λ (l : Line) (rest : List ℕ). l ∷ script_lines rest) (sym is) (sym behind)
+
+-- a line does what its value does
+by_value_step : (state : State) (n : ℕ) (said : Line) (turn : Turn) → Step state n said turn → Step state n (by_value said) turn
+by_value_step state n (line.Command (command.Edit (edit.Say name bytes))) turn step = step
+by_value_step state n (line.Command (command.Edit other)) turn step = step
+by_value_step state n (line.Command other) turn step = step
+by_value_step state n other turn step = step
+
+-- one line more
+plays_on : (old : State) (n m : ℕ) (answered : List Line) (line : Line) (replies : List Answer) (state : State) (turn : Turn) → Plays old n answered replies state → n + length answered ≡ m → Step state m line turn → Plays old n (answered ++ line ∷ []) (replies ++ turn.replies) turn.after
+plays_on old n m [] line replies state turn plays number step =
+    let number_is : m ≡ n = omega (arith, number) in
+    (turn, [], subst (λ (s : State). Step s n line turn) plays.1 (subst (λ k. Step state k line turn) number_is step), (refl, refl), ap (λ rs. rs ++ turn.replies) plays.0 ∙ sym (append-nil turn.replies))
+plays_on old n m (first ∷ answered) line replies state turn plays number step =
+    let rest = plays.1 in
+    let number_is : n + 1 + length answered ≡ m = omega (arith, number) in
+    (plays.0, rest ++ turn.replies, plays.2, plays_on plays.0.after (n + 1) m answered line rest state turn plays.3 number_is step, ap (λ rs. rs ++ turn.replies) plays.4 ∙ append_assoc plays.0.replies rest turn.replies)
+
+-- losses of one list of replies and then another
+losses_on : (earlier later : List Answer) → lost_frames (earlier ++ later) ≡ lost_frames earlier + lost_frames later
+losses_on [] later = omega arith
+losses_on (reply ∷ earlier) later = ap (λ n. losses_of reply + n) (losses_on earlier later) ∙ sym (add_assoc (losses_of reply) (lost_frames earlier) (lost_frames later))
+
+-- Where a session has come to in a script: the lines that it carried out, how the machine plays them,
+-- and what the outside shows of it.
+pub record SoFar (script : List ℕ) (before now : Outside) (session : Session) (number : ℕ) (rest : List ℕ) : Type 0 where
+  pub answered : List Line
+  pub split : script_lines script ≡ answered ++ script_lines rest
+  pub numbered : length answered + 1 ≡ number
+  pub replies : List Answer
+  pub state : State
+  pub plays : Plays opening 1 answered replies state
+  pub stands : StandsFor session state
+  pub log_grows : GrowsBy before.log now.log (text replies)
+  pub screen_grows : GrowsBy before.frames now.frames (shown state.starts)
+  pub losses : RoseBy (lost_frames replies) before.faults now.faults
+
+-- before the first line
+pub at_start : (script : List ℕ) (before : Outside) (session : Session) → StandsFor session opening → SoFar script before before session 1 script
+at_start script before session stands = record {
+  answered = [];
+  split = refl;
+  numbered = refl;
+  replies = [];
+  state = opening;
+  plays = (refl, refl);
+  stands = stands;
+  log_grows = grows_by_none before.log;
+  screen_grows = grows_by_none before.frames;
+  losses = rose_by_none before.faults before.faults (omega arith);
+}
+
+-- after one more line
+pub one_line : (script : List ℕ) (before now after : Outside) (old new : Session) (number : ℕ) (rest : List ℕ) (line : Line) (behind : List ℕ) → 0 < length rest → by_value line ≡ line_of (first_line rest) → behind ≡ after_line rest → SoFar script before now old number rest → Carries Whole number line now after old new → SoFar script before after new (number + 1) behind
+one_line script before now after old new number [] line behind some is behind_is so_far carries = absurd (omega arith)
+one_line script before now after old new number (b ∷ bs) line behind some is behind_is so_far carries =
+    let carried = carries so_far.state so_far.stands in
+    let turn = carried.turn in
+    record {
+      answered = so_far.answered ++ by_value line ∷ [];
+      split = so_far.split ∙ ap (λ ls. so_far.answered ++ ls) (says_first b bs (by_value line) behind is behind_is) ∙ sym (append_assoc so_far.answered (by_value line ∷ []) (script_lines behind));
+      numbered = ap (λ n. n + 1) (length-append so_far.answered (by_value line ∷ []) ∙ so_far.numbered);
+      replies = so_far.replies ++ turn.replies;
+      state = turn.after;
+      plays = plays_on opening 1 number so_far.answered (by_value line) so_far.replies so_far.state turn so_far.plays (omega (arith, so_far.numbered)) (by_value_step so_far.state number line turn carried.step);
+      stands = carried.stands;
+      log_grows = subst (λ t. GrowsBy before.log after.log t) (sym (flat_map-append reply_text so_far.replies turn.replies)) (grows_on so_far.log_grows carried.log_grows);
+      screen_grows = subst (λ frames. GrowsBy before.frames after.frames frames) (sym carried.shown_grows) (grows_on so_far.screen_grows carried.screen_grows);
+      losses = subst (λ k. RoseBy k before.faults after.faults) (sym (losses_on so_far.replies turn.replies)) (rose_by_on (lost_frames so_far.replies) (lost_frames turn.replies) before.faults now.faults after.faults so_far.losses carried.losses);
+    }
+
+-- after the last line
+pub at_end : (script : List ℕ) (before now : Outside) (session : Session) (number : ℕ) (rest : List ℕ) → length rest ≡ 0 → SoFar script before now session number rest → Played script before now
+at_end script before now session number (b ∷ bs) none so_far = absurd (omega arith)
+at_end script before now session number [] none so_far = record {
+  replies = so_far.replies;
+  final = so_far.state;
+  plays = subst (λ ls. Plays opening 1 ls so_far.replies so_far.state) (sym (so_far.split ∙ append-nil so_far.answered)) so_far.plays;
+  log_grows = so_far.log_grows;
+  screen_grows = so_far.screen_grows;
+  losses = so_far.losses;
+}
+
+-- where the log failed within the replies to a line
+pub stopped : (script : List ℕ) (before now after : Outside) (old new : Session) (number : ℕ) (rest : List ℕ) (line : Line) (behind : List ℕ) → 0 < length rest → by_value line ≡ line_of (first_line rest) → behind ≡ after_line rest → SoFar script before now old number rest → Carries Part number line now after old new → Stopped script before after
+stopped script before now after old new number [] line behind some is behind_is so_far carries = absurd (omega arith)
+stopped script before now after old new number (b ∷ bs) line behind some is behind_is so_far carries =
+    let carried = carries so_far.state so_far.stands in
+    let turn = carried.turn in
+    let part = carried.log_grows in
+    record {
+      answered = so_far.answered;
+      last = by_value line;
+      left = script_lines behind;
+      split = so_far.split ∙ ap (λ ls. so_far.answered ++ ls) (says_first b bs (by_value line) behind is behind_is);
+      replies = so_far.replies;
+      state = so_far.state;
+      plays = so_far.plays;
+      turn = turn;
+      step = subst (λ k. Step so_far.state k (by_value line) turn) (sym so_far.numbered) (by_value_step so_far.state number line turn carried.step);
+      written = part.added;
+      missing = part.left_out;
+      cut = part.split;
+      log_grows = grows_on so_far.log_grows part.grows;
+      screen_grows = subst (λ frames. GrowsBy before.frames after.frames frames) (sym carried.shown_grows) (grows_on so_far.screen_grows carried.screen_grows);
+      losses = subst (λ k. RoseBy k before.faults after.faults) (sym (losses_on so_far.replies turn.replies)) (rose_by_on (lost_frames so_far.replies) (lost_frames turn.replies) before.faults now.faults after.faults so_far.losses carried.losses);
+    }

@@ -1,0 +1,53 @@
+-- How a run ends, and why.
+use Rattle.std.specs.Prelude.{◌≡◌, ◌⊎◌, ℕ, Bool, true, false, ◌&&◌, nat_lt, List, [], ◌∷◌, map, codes}
+use denote.Bor.{Bor}
+use Rattle.std.specs.Str.{bytes_eq}
+use Rattle.ev_port.specs.Told.{counted}
+use Rattle.ev_script.specs.declared.alone.Status.{Status}
+use Rattle.ev_script.specs.declared.alone.Status.TheVariants.{Ok, Usage, ReadFault, WriteFault, NoMemory, TooLong}
+
+-- the texts behind references
+abbrev pub texts : List (Bor (List ℕ)) → List (List ℕ)
+texts words = map (λ word. word.now) words
+
+-- the words of a run that are taken: none, or the two words that ask for no worker
+abbrev pub are_accepted : List (List ℕ) → Bool
+are_accepted [] = true
+are_accepted (word ∷ []) = false
+are_accepted (word ∷ (value ∷ [])) = bytes_eq word (codes "--workers") && bytes_eq value (codes "0")
+are_accepted (word ∷ (value ∷ (more ∷ words))) = false
+
+-- whether a run ended before the first line
+abbrev pub is_before_lines : Status → Bool
+is_before_lines Ok = false
+is_before_lines Usage = true
+is_before_lines ReadFault = true
+is_before_lines WriteFault = false
+is_before_lines NoMemory = true
+is_before_lines TooLong = true
+
+abbrev pub is_too_long : Status → Bool
+is_too_long Ok = false
+is_too_long Usage = false
+is_too_long ReadFault = false
+is_too_long WriteFault = false
+is_too_long NoMemory = false
+is_too_long TooLong = true
+
+abbrev pub is_usage : Status → Bool
+is_usage Ok = false
+is_usage Usage = true
+is_usage ReadFault = false
+is_usage WriteFault = false
+is_usage NoMemory = false
+is_usage TooLong = false
+
+-- so many bytes were taken, as far as the count tells, and the script was too long exactly where they are more than it may have
+pub record Takes (before now : ℕ) (too_long : Bool) : Type 0 where
+  pub bytes : ℕ
+  pub count : counted now 0 ≡ counted before bytes
+  pub long : too_long ≡ nat_lt 16777216 bytes
+
+-- the script was carried out, or memory was wanting
+abbrev pub IsFine : Status → Type 0
+IsFine status = (status ≡ Ok) ⊎ (status ≡ NoMemory)

@@ -1,0 +1,86 @@
+// The top call on one thread.
+ghost use Rattle.std.specs.Prelude.{◌≡◌, false, true, not};
+ghost use Rattle.ev_port.specs.Causes.{Rose};
+ghost use Rattle.ev_script.specs.Outside.{outside};
+ghost use Rattle.ev_script.specs.Frames.{ShowsInOrder};
+ghost use Rattle.ev_script.specs.Play.{Played, Stopped, OfScript};
+ghost use Rattle.ev_script.specs.Status.{are_accepted, is_before_lines, is_too_long, is_usage, Takes, IsFine, texts};
+
+use crate::source::{ReadError, read_script};
+use crate::{Session, play};
+use ev_port::{Screen, Sink, Source, Store};
+use std::alloc::Global;
+
+/// How a run ended (docs/SCRIPT.md, "Statuses").
+#[derive(Clone, Copy, Debug, PartialEq, Eq)]
+pub enum Status {
+    /// The script was carried out, and its whole log was written.
+    Ok,
+    /// The words of the run aren't ones that it takes.
+    Usage,
+    /// The source failed.
+    ReadFault,
+    /// The sink failed.
+    WriteFault,
+    /// There was no room for the script.
+    NoMemory,
+    /// The script has more than 16,777,216 bytes.
+    TooLong,
+}
+
+/// Reads a script from the source to its end, carries out its lines one after another, writes its log
+/// to the sink and shows its frames on the screen (docs/SCRIPT.md, docs/CANVAS.md). The store isn't
+/// used yet. `words` are those of the command line.
+pub fn run_alone<S: Source, K: Sink, T: Store, P: Screen>(
+    alloc: Global,
+    words: &[&str],
+    source: &mut S,
+    sink: &mut K,
+    store: &mut T,
+    screen: &mut P,
+) -> Status
+    ensures played { result ≡ Status.Ok → OfScript Played (S.left source.old) (S.left source.new)
+        (outside (K.written sink.old) (P.shown screen.old) (P.faults screen.old))
+        (outside (K.written sink.new) (P.shown screen.new) (P.faults screen.new)) }
+    ensures stopped { result ≡ Status.WriteFault → OfScript Stopped (S.left source.old) (S.left source.new)
+        (outside (K.written sink.old) (P.shown screen.old) (P.faults screen.old))
+        (outside (K.written sink.new) (P.shown screen.new) (P.faults screen.new)) }
+    ensures in_order { ShowsInOrder (P.shown screen.old) (P.shown screen.new) }
+    ensures usage { is_usage result ≡ not (are_accepted (texts words.now)) }
+    ensures read_fault { result ≡ Status.ReadFault → Rose (S.faults source.old) (S.faults source.new) }
+    ensures write_fault { result ≡ Status.WriteFault → Rose (K.faults sink.old) (K.faults sink.new) }
+    ensures too_long { Takes (S.taken source.old) (S.taken source.new) (is_too_long result) }
+    ensures unread { result ≡ Status.Usage → source.new ≡ source.old }
+    ensures unwritten { is_before_lines result ≡ true → sink.new ≡ sink.old }
+    ensures unshown { is_before_lines result ≡ true → screen.new ≡ screen.old }
+    ensures unfetched { store.new ≡ store.old }
+    ensures complete { are_accepted (texts words.now) ≡ true → ¬ Rose (S.faults source.old) (S.faults source.new)
+        → ¬ Rose (K.faults sink.old) (K.faults sink.new) → is_too_long result ≡ false → IsFine result }
+{
+    if !are_accepted(words) {
+        return Status::Usage;
+    }
+    let Ok(mut session) = Session::new(alloc) else {
+        return Status::NoMemory;
+    };
+    match read_script(alloc, source) {
+        Ok(script) => match play(alloc, &mut session, &script, sink, screen) {
+            Ok(()) => Status::Ok,
+            Err(_) => Status::WriteFault,
+        },
+        Err(ReadError::Failed) => Status::ReadFault,
+        Err(ReadError::TooLong) => Status::TooLong,
+        Err(ReadError::NoMemory) => Status::NoMemory,
+    }
+}
+
+// No words, or the two words that ask for no worker.
+fn are_accepted(words: &[&str]) -> bool
+    ensures { result ≡ are_accepted (texts words.now) }
+{
+    match words {
+        [] => true,
+        [word, value] => *word == "--workers" && *value == "0",
+        _ => false,
+    }
+}

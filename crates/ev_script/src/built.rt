@@ -1,0 +1,25 @@
+// The edits that are carried out so far.
+ghost use Rattle.std.specs.Prelude.{◌≡◌};
+ghost use Rattle.ev_scene.specs.Edits.{is_built};
+
+use ev_model::{Edit, Kind};
+
+/// Whether an edit is carried out; each other one is a bad word.
+pub fn is_built(edit: &Edit) -> bool
+    ensures { result ≡ is_built edit.now }
+{
+    match edit {
+        Edit::Make { kind, .. } => matches!(*kind, Kind::Rect),
+        Edit::Size { .. }
+        | Edit::Delete { .. }
+        | Edit::Move { .. }
+        | Edit::Resize { .. }
+        | Edit::Show { .. }
+        | Edit::Color { .. }
+        | Edit::SetOp { .. }
+        | Edit::Layer { .. }
+        | Edit::Raise { .. }
+        | Edit::Place { .. } => true,
+        _ => false,
+    }
+}

@@ -1,0 +1,18 @@
+//! Scripts: the machine that their lines drive, and the log and frames that they give.
+#![tactic(auto)]
+
+mod alone;
+mod built;
+mod picture;
+mod reply;
+mod script;
+mod session;
+mod source;
+mod totals;
+
+pub use alone::{Status, run_alone};
+pub use script::{differences_are_reported, numbers_rise, play};
+pub use session::Session;
+
+#[cfg(test)]
+mod tests;

@@ -1,8 +1,0 @@
-use Rattle.std.proofs.Common.{◌≡◌, ◌-◌}
-use Rattle.ev_stack.specs.Order.{above_in, at_place}
-use Rattle.ev_stack.specs.Links.{order_of, climbed}
-use Rattle.ev_stack.proofs.chain.Chain.at.Given as goal
-
--- the steps that are left lead to the place
-abbrev pub invariant-up : goal.invariant-up
-invariant-up l = climbed (above_in (order_of l.self)) (l.place - l.counter) l.found ≡ at_place (order_of l.self) l.place

@@ -1,0 +1,31 @@
+#!/usr/bin/env bash
+# Quick checks of what no proof sees: the allowed handles, the layout, and the shell and Python tools.
+set -u
+cd "$(dirname "$0")/.." || exit 2
+failed=0
+complain() {
+  echo "quick-checks: $*"
+  failed=1
+}
+[ "$(cat HANDLES)" = "Handles allowed: Threads, Wait." ] || complain "HANDLES isn't its one line"
+stray=$(git ls-files '*.rt' '*.antt' | grep -vE '^crates/[a-z0-9_]+/(src|specs|proofs)/')
+[ -z "$stray" ] || complain "Rattle files outside src/, specs/ and proofs/: $stray"
+listed=$(sed -n 's/^\([a-z0-9_]*\)\( [a-z]*\)*:.*/\1/p' crates.txt | sort)
+there=$(ls crates | sort)
+[ "$listed" = "$there" ] || complain "crates.txt and crates/ differ"
+for link in $(grep -ohE '\]\([A-Za-z0-9_./-]+\)' README.md | tr -d '])(' ); do
+  [ -e "$link" ] || complain "README.md links to $link, which isn't there"
+done
+for link in $(grep -ohE '\]\([A-Za-z0-9_./-]+\)' docs/*.md | tr -d '])(' ); do
+  [ -e "docs/$link" ] || complain "a page of docs/ links to $link, which isn't there"
+done
+for tool in evas_script .ci/run tools/*.sh; do
+  bash -n "$tool" || complain "$tool isn't a shell script"
+done
+if command -v python3 >/dev/null; then
+  made=$(mktemp)
+  printf 'ffff0000 00000000\n' | python3 tools/picture.py "$made" && [ "$(head -c 4 "$made" | tail -c 3)" = PNG ] || complain "tools/picture.py makes no PNG"
+  rm -f "$made"
+fi
+[ $failed = 0 ] && echo "quick-checks: ok"
+exit $failed
