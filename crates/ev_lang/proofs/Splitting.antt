@@ -1,6 +1,6 @@
 -- The words of a line, one after another.
-use Rattle.std.proofs.Common.{◌≡◌, ℕ, ◌<◌, List, [], ◌∷◌, Bool, true, false, Option, Some, None, length, refl, ap, sym, ◌∙◌, cond, ◌==◌, if◌then◌else◌, arith}
-use Rattle.ev_lang.specs.Words.{onto_first, begins_word, words, skipped, first_word, after_word, uncons}
+use Rattle.std.proofs.Common.{◌≡◌, ℕ, ◌<◌, List, [], ◌∷◌, Bool, true, false, Option, Some, None, length, refl, ap, ◌==◌, arith}
+use Rattle.ev_lang.specs.Words.{onto_first, words, skipped, first_word, after_word, uncons}
 
 -- where a word begins, it comes first
 split_at : (t : Bool) (c d : ℕ) (ds : List ℕ) → (c == 32) ≡ false → (d == 32) ≡ t → words (c ∷ d ∷ ds) ≡ first_word (c ∷ d ∷ ds) ∷ words (after_word (c ∷ d ∷ ds))

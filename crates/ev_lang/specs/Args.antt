@@ -5,7 +5,7 @@ use Rattle.ev_model.specs.Name.{is_name}
 use Rattle.ev_model.specs.declared.object.Op.{Op}
 use Rattle.ev_model.specs.declared.refusal.BadLine.{BadLine}
 use Rattle.ev_model.specs.declared.refusal.BadLine.TheVariants as bad
-use Rattle.ev_lang.specs.Words.{words, skipped, first_word, after_word, after_one}
+use Rattle.ev_lang.specs.Words.{skipped, first_word, after_word, after_one}
 use Rattle.ev_lang.specs.Classes.{name_arg, number_arg, op_arg, switch_arg}
 
 -- what is read in so many words

