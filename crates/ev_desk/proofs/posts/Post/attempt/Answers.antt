@@ -1,0 +1,12 @@
+use Rattle.std.proofs.Common.{rules, refl, ap, Some}
+use Rattle.ev_desk.specs.declared.view.Entry.TheVariants.{Waiting}
+use Rattle.ev_seats.proofs.Lists.{first_slot}
+use Rattle.ev_desk.proofs.Desks.{tries}
+use Rattle.ev_desk.proofs.posts.Post.attempt.Goals as goal
+
+pub compare_exchange-found-requires : goal.compare_exchange-found-requires
+compare_exchange-found-requires g c = (search rules, search rules, tries g.J.Errand.belongs g.J.Errand.faulty _ _ _ c.requires.loader _ c.requires.small c.requires.free)
+
+pub exchange-entry-requires : goal.exchange-entry-requires
+exchange-entry-requires g c = let won = c.compare_exchange-found.ensures.2.0 c.if-found-ne-ASKED.false in
+    (search rules, (Some (Waiting won.0), first_slot _ _ _ _ _ (ap (λ m. m.1) won.1) refl))
