@@ -1,10 +1,11 @@
 -- The rule over the words' values and the views is kept by each kind of step.
-use Rattle.std.proofs.Common.{◌≡◌, ℕ, zero, suc, ◌+◌, ◌<◌, ◌≤◌, ◌≢◌, Bool, true, false, List, [], ◌∷◌, ◌++◌, set, sym, refl, ap, ◌∙◌, subst, ⊎_elim, arith}
-use mathlib.Core.Option.{some, some-injective, some-ne-none}
+use Rattle.std.proofs.Common.{◌≡◌, ℕ, ◌+◌, ◌<◌, ◌≤◌, ◌≢◌, Bool, true, false, List, [], ◌∷◌, ◌++◌, set, sym, refl, ap, ◌∙◌, subst, ⊎_elim, arith}
+use mathlib.Core.Option.{some}
 use lib.ListN.{get_elem?}
 use Rattle.std.specs.Prelude.{Some, None}
 use Rattle.std.proofs.lemmas.Bool.{eqb-true}
 use Rattle.atomic_table.proofs.Lists.{at_set, at_snoc}
+use Rattle.ev_seats.proofs.Lists.{lone}
 use Rattle.ev_seats.specs.Weights.{total, below, only, is_one}
 use Rattle.ev_ring.specs.Tally.{bare, limit_word, is_owner, is_hand, held_by, hands_in, Reads, Leads, Tally, blank_hand, opening_view, spent_view}
 use Rattle.ev_ring.specs.Steps.{with_hand, with_owner, saw_limit, saw_claim, got_ticket, lost_to, gave_ticket, saw_done, published_to, closed_view, with_hand_out, new_hand, taken_in, HasAll}
@@ -114,11 +115,10 @@ module _ (l c d : ℕ) (views : Views) (t : Tally l c d views) (id : ℕ) (v : C
   pub done_below : Leading → d ≤ v.owner.limit
   done_below lead = let x = led lead in let w = t.within in let s = t.settled in omega (arith, ap bare x.limit_is, bare_word v.owner.is_closed v.owner.limit x.room)
 
-  pub published_kept : (n : ℕ) → Leading → v.owner.is_closed ≡ false → v.owner.is_quiet ≡ true → v.owner.limit ≤ n → n ≤ 4611686018427387904 → Tally n c d (set views id (published_to n v))
-  published_kept n lead unclosed quiet up room = let x = led lead in let s = x.seen in let q = x.quiet quiet in
-      let word : l ≡ v.owner.limit = x.limit_is ∙ ap (λ b. limit_word b v.owner.limit) unclosed in
-      steered n _ lead (omega arith)
-      record { limit_is = sym (ap (λ b. limit_word b n) unclosed); room = room; quiet = λ e. omega (arith, eqb-true n v.owner.limit e); seen = s; own = omega arith; hands_are = x.hands_are }
+  pub published_kept : (n : ℕ) → Leading → v.owner.is_quiet ≡ true → v.owner.limit ≤ n → n ≤ 4611686018427387904 → Tally (limit_word v.owner.is_closed n) c d (set views id (published_to n v))
+  published_kept n lead quiet up room = let x = led lead in let s = x.seen in let q = x.quiet quiet in let b = v.owner.is_closed in
+      steered (limit_word b n) _ lead (omega (arith, ap bare x.limit_is, bare_word b v.owner.limit x.room, bare_word b n room))
+      record { limit_is = refl; room = room; quiet = λ e. omega (arith, eqb-true n v.owner.limit e); seen = s; own = omega arith; hands_are = x.hands_are }
 
   pub closed_kept : Leading → Tally (limit_word true v.owner.limit) c d (set views id (closed_view v))
   closed_kept lead = let x = led lead in
@@ -199,13 +199,9 @@ opens = record {
   within = omega arith;
   once = λ f. refl;
   settled = refl;
-  stands = λ k u ticket e h. let i : None ≡ Some ticket = ap (λ (y : Counts). y.hand.held) (alone_at k u e) ∙ h in cc;
+  stands = λ k u ticket e h. let i : None ≡ Some ticket = ap (λ (y : Counts). y.hand.held) (lone opening_view u k e) ∙ h in cc;
   one_owner = refl;
-  reads = λ k u e. subst (λ (y : Counts). Reads 0 0 y.hand) (alone_at k u e) record { limit_behind = omega arith; claim_behind = omega arith; found_behind = omega arith };
-  leads = λ k u e is. subst (λ (y : Counts). Leads 0 0 0 y.owner) (alone_at k u e) record { limit_is = refl; room = omega arith; quiet = λ _. refl; seen = omega arith; own = omega arith; hands_are = refl };
-  spent = λ k u e is. let r : Owner ≡ Spent = ap (λ (y : Counts). y.role) (alone_at k u e) ∙ is in cc;
+  reads = λ k u e. subst (λ (y : Counts). Reads 0 0 y.hand) (lone opening_view u k e) record { limit_behind = omega arith; claim_behind = omega arith; found_behind = omega arith };
+  leads = λ k u e is. subst (λ (y : Counts). Leads 0 0 0 y.owner) (lone opening_view u k e) record { limit_is = refl; room = omega arith; quiet = λ _. refl; seen = omega arith; own = omega arith; hands_are = refl };
+  spent = λ k u e is. let r : Owner ≡ Spent = ap (λ (y : Counts). y.role) (lone opening_view u k e) ∙ is in cc;
 }
-  where
-    alone_at : (k : ℕ) (u : Counts) → get_elem? (opening_view ∷ []) k ≡ some u → opening_view ≡ u
-    alone_at zero u e = some-injective opening_view u e
-    alone_at (suc k) u e = absurd (some-ne-none u (sym e))

@@ -82,7 +82,7 @@ module _ {J D : Type 0} where
       × (n ≡ (shelved r (without ticket m.0.jobs) (Some (slot_of ticket)) m.0, (slot_of ticket, Some (Finished ticket d)) ∷ m.1)) × Sees m.0.counts r
 
   abbrev pub published : Step (Slot J D) → Sat J D → ℕ → Sat J D → Type 0
-  published st m r n = n ≡ (counting m.0 (published_to r m.0.counts), m.1)
+  published st m r n = n ≡ (counting m.0 (published_to (bare r) m.0.counts), m.1)
 
   abbrev pub closed : Step (Slot J D) → Sat J D → ℕ → Sat J D → Type 0
   closed st m r n = n ≡ (counting m.0 (closed_view m.0.counts), m.1)

@@ -1,5 +1,5 @@
 -- What the calls of the ring answer, by the caller's view before and after.
-use Rattle.std.specs.Prelude.{◌≡◌, ℕ, ◌+◌, ◌<◌, ◌≤◌, true, false, List, length, Some, None}
+use Rattle.std.specs.Prelude.{◌≡◌, ℕ, ◌+◌, ◌*◌, ◌<◌, ◌≤◌, true, false, List, [], ◌∷◌, length, Some, None}
 use Rattle.ev_seats.specs.Jobs.{job_of, numbered}
 use Rattle.ev_ring.specs.Steps.{with_owner, saw_limit, saw_claim, lost_to, saw_done, published_to, IsLater}
 use Rattle.ev_ring.specs.Moves.{counting, got_job, Sees}
@@ -54,15 +54,20 @@ module _ {J : Type 0} where
   Readies v Yes w = DoneSeen v v.counts.owner.limit w × (w.counts.owner.is_quiet ≡ true)
   Readies v (No done limit) w = DoneSeen v done w × (w.counts.owner.is_quiet ≡ false) × (limit ≡ v.counts.owner.limit) × (done < limit)
 
-  -- an owner put these jobs into slots, with the tickets from `first` on, and looked meanwhile at the number of tickets done
-  abbrev pub Stocks : ℕ → View J → List J → View J → Type 0
-  Stocks first v jobs w = (seen : ℕ) × (looks : ℕ) × (w ≡ record {
-    counts = with_owner v.counts record v.counts.owner { done_seen = seen; done_looks = looks };
+  -- the number of tickets done that was seen last, where a quiet owner put these jobs into slots
+  abbrev pub last_seen : View J → List J → ℕ
+  last_seen v [] = v.counts.owner.done_seen
+  last_seen v (job ∷ jobs) = v.counts.owner.limit
+
+  -- a quiet owner put these jobs into slots, with the tickets from `first` on, and looked twice for each at the number of tickets done
+  abbrev pub filled : ℕ → List J → View J → View J
+  filled first jobs v = record {
+    counts = with_owner v.counts record v.counts.owner { done_seen = last_seen v jobs; done_looks = v.counts.owner.done_looks + 2 * length jobs };
     job = v.job;
     jobs = numbered first jobs;
     out = None;
-  })
+  }
 
-  -- and published them
-  abbrev pub Publishes : View J → List J → View J → Type 0
-  Publishes v jobs w = (stocked : View J) × Stocks v.counts.owner.limit v jobs stocked × (w ≡ counting stocked (published_to (v.counts.owner.limit + length jobs) stocked.counts))
+  -- and raised the limit over them
+  abbrev pub raised : List J → View J → View J
+  raised jobs v = let w : View J = filled v.counts.owner.limit jobs v in counting w (published_to (v.counts.owner.limit + length jobs) w.counts)

@@ -1,5 +1,5 @@
 -- What the contracts see of an owner and of a hand.
-use Rattle.std.specs.Prelude.{◌≡◌, ℕ}
+use Rattle.std.specs.Prelude.{◌≡◌, ℕ, true, Some, None}
 use Rattle.atomic_table.specs.Seated.{TableId}
 use Rattle.ev_ring.specs.Steps.{with_owner}
 use Rattle.ev_ring.specs.Slots.{opening_view}
@@ -8,6 +8,17 @@ use Rattle.ev_ring.specs.declared.view.View.{View}
 use Rattle.ev_ring.specs.declared.posts.Post.{Post}
 use Rattle.ev_ring.specs.declared.hands.Hand.{Hand}
 use Rattle.ev_ring.specs.declared.owners.Owner.{Owner}
+
+module _ {J : Type 0} where
+  abbrev pub Holds : View J → ℕ → Type 0
+  Holds v ticket = v.counts.hand.held ≡ Some ticket
+
+  abbrev pub HoldsNothing : View J → Type 0
+  HoldsNothing v = v.counts.hand.held ≡ None
+
+  -- an owner whose last look found each published ticket given back
+  abbrev pub IsQuiet : View J → Type 0
+  IsQuiet v = v.counts.owner.is_quiet ≡ true
 
 module _ {J D : Type 0} where
   abbrev pub post_view : Post J D → View J

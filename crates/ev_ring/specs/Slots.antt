@@ -1,5 +1,5 @@
 -- The rule of the ring over its words, its slots and the views of all seats. The slot of a ticket is the ticket modulo 4,096.
-use Rattle.std.specs.Prelude.{◌≡◌, ◌≢◌, ℕ, ◌+◌, ◌%◌, ◌<◌, ◌≤◌, List, [], ◌∷◌, map, length, Option, Some, None}
+use Rattle.std.specs.Prelude.{◌≡◌, ◌≢◌, ℕ, ◌+◌, ◌%◌, ◌<◌, ◌≤◌, List, [], ◌∷◌, map, length, Option, Some, None, true}
 use mathlib.Core.Option as maybe
 use lib.ListN.{get_elem?}
 use Rattle.atomic_table.specs.Table.{State}
@@ -18,6 +18,14 @@ Slot J D = Option (Entry J D)
 
 abbrev pub counts_of : {J : Type 0} → View J → Rattle.ev_ring.specs.declared.view.Counts.Counts
 counts_of v = v.counts
+
+-- the words of the table. Seven that nothing uses lie between any two of them, so that no two share 64 bytes
+abbrev pub spread : ℕ → ℕ → ℕ → ℕ → List ℕ
+spread limit claim done bell =
+    limit ∷ 0 ∷ 0 ∷ 0 ∷ 0 ∷ 0 ∷ 0 ∷ 0
+    ∷ claim ∷ 0 ∷ 0 ∷ 0 ∷ 0 ∷ 0 ∷ 0 ∷ 0
+    ∷ done ∷ 0 ∷ 0 ∷ 0 ∷ 0 ∷ 0 ∷ 0 ∷ 0
+    ∷ bell ∷ []
 
 abbrev pub slot_of : ℕ → ℕ
 slot_of ticket = ticket % 4096
@@ -51,13 +59,15 @@ pub record Ring {J D : Type 0} (belongs : J → D → Type 0) (s : State (Slot J
   pub done : ℕ
   -- the bell, of which nothing is known. Hands rest on it
   pub bell : ℕ
-  pub words_are : s.words ≡ limit ∷ claim ∷ done ∷ bell ∷ []
+  pub words_are : s.words ≡ spread limit claim done bell
   pub tally : Tally limit claim done (map counts_of s.views)
   pub many : length s.homes ≡ 4096
   pub chair : ℕ
   pub owner : View J
   pub sits : get_elem? s.views chair ≡ maybe.some owner
   pub leads : owner.counts.role ≡ Owner
+  -- only a quiet owner has a slot out
+  pub still : (i : ℕ) → owner.out ≡ Some i → owner.counts.owner.is_quiet ≡ true
   pub shelf : Shelf belongs owner.counts.owner.limit claim s.homes s.views owner.jobs owner.out
 
 abbrev pub opening_view : {J : Type 0} → View J

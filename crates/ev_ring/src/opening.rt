@@ -6,7 +6,7 @@ ghost use Rattle.ev_ring.specs.Seen.{owner_view, IsFresh, OpensWith};
 use crate::NoMemory;
 use crate::hands::Hand;
 use crate::owners::Owner;
-use crate::posts::{Board, Post, SLOTS};
+use crate::posts::{Board, Post, SLOTS, WORDS};
 use crate::work::Work;
 use atomic_table::Table;
 use std::alloc::Global;
@@ -17,16 +17,18 @@ fn open<J: Work>(alloc: Global, slots: usize) -> Result<Owner<J>, NoMemory>
     requires { slots ≡ 4096 }
     ensures { IfOk result (λ o. OpensWith 0 o) }
 {
-    let (table, seat) = Board::<J>::vacant(alloc, &[0, 0, 0, 0], slots, &())?;
+    let (table, seat) = Board::<J>::vacant(alloc, &[0; WORDS], slots, &())?;
     let table = Arc::new(alloc, table).map_err(|_| NoMemory)?;
     Ok(Owner {
         post: Post { table, seat },
         limit: 0,
+        closed: false,
         done: 0,
     })
 }
 
-/// Makes a ring, with its owner and so many hands.
+/// Makes a ring, with its owner and so many hands. It has 4,096 slots, and no ticket yet. NoMemory where there is none for
+/// the table or the hands (docs/THREADS.md, The ring).
 pub fn ring<J: Work>(alloc: Global, hands: u32) -> Result<(Owner<J>, Vec<Hand<J>>), NoMemory>
     ensures owner { IfOk result (λ r. OpensWith hands r.0) }
     ensures count { IfOk result (λ r. vec_len r.1 ≡ hands) }

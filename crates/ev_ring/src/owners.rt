@@ -1,33 +1,37 @@
 //! The owner of the ring.
-ghost use Rattle.std.specs.Prelude.{◌≡◌, ◌^◌, ◌≤◌};
+ghost use Rattle.std.specs.Prelude.{◌≡◌, ◌^◌, ◌≤◌, [], true};
 ghost use Rattle.ev_ring.specs.declared.view.Role.TheVariants.{Owner as IsOwner};
 
 use crate::NoMemory;
 use crate::answers::{Claim, Ready};
 use crate::hands::Hand;
-use crate::posts::{Post, TOP_BIT};
+use crate::posts::Post;
 use crate::work::Work;
 use std::marker::Brand;
 use std::sync::Wait;
 
-/// The owner, which publishes jobs. It is a hand as well.
+/// The owner, which publishes jobs and takes back what came of them. It is a hand as well (docs/THREADS.md, The ring).
 #[derive(Drop)]
 pub struct Owner<J: Work> {
     pub(crate) post: Post<J>,
     pub(crate) limit: u64,
+    pub(crate) closed: bool,
     // The number of tickets done that it saw last.
     pub(crate) done: u64,
     ghost is_owner: { post.seat.me.0.counts.role ≡ IsOwner },
     ghost limit_is: { limit ≡ post.seat.me.0.counts.owner.limit },
     ghost room: { limit ≤ 2 ^ 62 },
+    ghost closed_is: { closed ≡ post.seat.me.0.counts.owner.is_closed },
+    // An owner that took all back is quiet.
+    ghost rested: { post.seat.me.0.jobs ≡ [] → post.seat.me.0.counts.owner.is_quiet ≡ true },
 }
 
 impl<J: Work> Owner<J> {
-    ghost use Rattle.std.specs.Prelude.{◌+◌, ◌<◌, ℕ, [], true, false, None, Some, IfOk, MatchResult, vec_len};
-    ghost use Rattle.ev_seats.specs.Jobs.{job_of, without, numbered};
-    ghost use Rattle.ev_ring.specs.Seen.{hand_view, owner_view, IsSameOwner, IsOf, IsFresh};
-    ghost use Rattle.ev_ring.specs.Says.{Claims, Readies, Stocks, Publishes, MAX_TICKETS, stocked};
+    ghost use Rattle.std.specs.Prelude.{◌+◌, ◌<◌, ℕ, Some, IfOk, MatchResult, vec_len};
+    ghost use Rattle.ev_seats.specs.Jobs.{job_of, without};
     ghost use Rattle.ev_seats.specs.Weights.{IsEachBelow};
+    ghost use Rattle.ev_ring.specs.Seen.{hand_view, owner_view, IsSameOwner, IsOf, IsFresh, Holds, HoldsNothing, IsQuiet};
+    ghost use Rattle.ev_ring.specs.Says.{Claims, Readies, MAX_TICKETS, stocked, filled, raised};
     ghost use Rattle.ev_ring.specs.Steps.{saw_claim, closed_view};
     ghost use Rattle.ev_ring.specs.Moves.{counting, gave_job, parted, both};
 
@@ -41,31 +45,30 @@ impl<J: Work> Owner<J> {
         Ok(Hand { post, bell: 0 })
     }
 
-    /// Publishes the jobs, whose tickets follow those that were published before, in the order of the Vec.
+    /// Publishes at most 4,096 jobs, in the order of the Vec, which is left empty. Their tickets follow those that were
+    /// published before. All earlier tickets are taken back (docs/THREADS.md, The ring).
     pub fn publish(&mut self, jobs: &mut Vec<J>)
-        requires quiet { (owner_view self.old).counts.owner.is_quiet ≡ true }
-        requires unclosed { (owner_view self.old).counts.owner.is_closed ≡ false }
         requires back { (owner_view self.old).jobs ≡ [] }
         requires few { vec_len jobs.old ≤ 4096 }
         requires room { (owner_view self.old).counts.owner.limit + vec_len jobs.old ≤ MAX_TICKETS }
         ensures owner { IsSameOwner self.old self.new }
         ensures empty { jobs.new.items ≡ [] }
-        ensures view { Publishes (owner_view self.old) jobs.old.items (owner_view self.new) }
+        ensures view { owner_view self.new ≡ raised jobs.old.items (owner_view self.old) }
     {
         let limit = self.limit + jobs.len() as u64;
         self.fill(jobs);
-        self.post.publish(limit);
+        self.post.publish(limit, self.closed);
         self.limit = limit;
     }
 
     // Puts the jobs into the slots of the tickets from the limit on.
     fn fill(&mut self, jobs: &mut Vec<J>)
-        requires quiet { (owner_view self.old).counts.owner.is_quiet ≡ true }
+        requires quiet { IsQuiet (owner_view self.old) }
         requires back { (owner_view self.old).jobs ≡ [] }
         requires few { vec_len jobs.old ≤ 4096 }
         ensures owner { IsSameOwner self.old self.new }
         ensures empty { jobs.new.items ≡ [] }
-        ensures view { Stocks (owner_view self.old).counts.owner.limit (owner_view self.old) jobs.old.items (owner_view self.new) }
+        ensures view { owner_view self.new ≡ filled (owner_view self.old).counts.owner.limit jobs.old.items (owner_view self.old) }
     {
         while let Some(job) = jobs.pop() {
             let ticket = self.limit + jobs.len() as u64;
@@ -73,7 +76,8 @@ impl<J: Work> Owner<J> {
         }
     }
 
-    /// Whether each published ticket was given back. Where the answer is Yes, no hand holds a ticket.
+    /// Whether each published ticket was given back: No exactly where the number of tickets done that this call loaded is
+    /// below the limit. After Yes no hand holds a ticket, as `quiet_rings_are_idle` tells.
     pub fn ready(&mut self) -> Ready
         ensures owner { IsSameOwner self.old self.new }
         ensures answer { Readies (owner_view self.old) result (owner_view self.new) }
@@ -88,9 +92,10 @@ impl<J: Work> Owner<J> {
         }
     }
 
-    /// Takes back what came of the job that was published with this ticket.
+    /// Takes back what came of the job that was published with this ticket. The ticket was not taken back before, and
+    /// `ready` answered Yes since the last publish.
     pub fn take(&mut self, ticket: u64) -> J::Done
-        requires quiet { (owner_view self.old).counts.owner.is_quiet ≡ true }
+        requires quiet { IsQuiet (owner_view self.old) }
         requires published { ticket < (owner_view self.old).counts.owner.limit }
         requires there { (job : _) × (job_of ticket (owner_view self.old).jobs ≡ Some job) }
         ensures owner { IsSameOwner self.old self.new }
@@ -102,7 +107,7 @@ impl<J: Work> Owner<J> {
 
     /// As `Hand::claim`.
     pub fn claim(&mut self) -> Claim<J>
-        requires { (owner_view self.old).counts.hand.held ≡ None }
+        requires { HoldsNothing (owner_view self.old) }
         ensures owner { IsSameOwner self.old self.new }
         ensures answer { Claims (owner_view self.old) result (owner_view self.new) }
     {
@@ -111,7 +116,7 @@ impl<J: Work> Owner<J> {
 
     /// As `Hand::give`.
     pub fn give(&mut self, ticket: u64, done: J::Done)
-        requires held { (owner_view self.old).counts.hand.held ≡ Some ticket }
+        requires held { Holds (owner_view self.old) ticket }
         requires done { (job : _) × ((owner_view self.old).job ≡ Some job) × J.belongs job done }
         ensures owner { IsSameOwner self.old self.new }
         ensures view { owner_view self.new ≡ gave_job (owner_view self.old) }
@@ -119,10 +124,11 @@ impl<J: Work> Owner<J> {
         self.post.give(ticket, done);
     }
 
-    /// Takes in a hand that holds nothing. Once all are in, the owner's list has each ticket below the claim, once.
+    /// Takes in a hand of this ring that holds no ticket, and its list. Once all hands are in, the owner's list has each
+    /// ticket below the claim that this call loaded, once.
     pub fn join(&mut self, hand: Hand<J>)
         requires ring { IsOf self.old hand }
-        requires free { (hand_view hand).counts.hand.held ≡ None }
+        requires free { HoldsNothing (hand_view hand) }
         ensures owner { IsSameOwner self.old self.new }
         ensures view { let joined = both (owner_view self.old) (hand_view hand) in owner_view self.new ≡ counting joined (saw_claim (owner_view self.new).counts.hand.claim_read joined.counts) }
         ensures all { let after = (owner_view self.new).counts in after.owner.hands_out ≡ 0 → IsEachBelow after.hand.claim_read after.hand.got }
@@ -131,17 +137,23 @@ impl<J: Work> Owner<J> {
         self.post.join(post);
     }
 
-    /// Closes the ring. From then on each claim that reads the limit finds it closed.
+    /// Closes the ring, of which nothing is out. From then on each claim finds it closed. What is published later is
+    /// claimed by nobody.
     pub fn close(&mut self)
-        requires { (owner_view self.old).counts.owner.is_quiet ≡ true }
+        requires { IsQuiet (owner_view self.old) }
         ensures owner { IsSameOwner self.old self.new }
         ensures view { owner_view self.new ≡ counting (owner_view self.old) (closed_view (owner_view self.old).counts) }
     {
-        self.post.close(self.limit + TOP_BIT);
+        self.post.close(self.limit);
+        self.closed = true;
     }
 
-    /// Sleeps until a ticket was given back since the last `ready`. It may also return for no reason.
-    pub fn rest<R: Wait>(&self, rt: &R) {
+    /// Sleeps until each published ticket was given back, where `ready` answered No. It may also return for no reason
+    /// (docs/THREADS.md, Resting).
+    pub fn rest<R: Wait>(&mut self, rt: &R)
+        ensures owner { IsSameOwner self.old self.new }
+        ensures view { owner_view self.new ≡ owner_view self.old }
+    {
         self.post.rest_on_done(rt, self.done);
     }
 }

@@ -1,7 +1,9 @@
 //! A seat at the ring's table, as the owner and each hand have one.
-ghost use Rattle.std.specs.Prelude.{◌≡◌, ◌≢◌, ◌%◌, None};
+ghost use Rattle.std.specs.Prelude.{◌≡◌, ◌≢◌, ◌%◌, ◌≤◌, None};
 ghost use Rattle.std.specs.Arc.{arc_value};
 ghost use Rattle.ev_ring.specs.Slots.{carried_by, slot_of};
+ghost use Rattle.ev_ring.specs.Says.{MAX_TICKETS};
+ghost use Rattle.ev_ring.specs.Tally.{limit_word};
 ghost use Rattle.ev_ring.specs.declared.view.Role.TheVariants.{Spent};
 
 use crate::NoMemory;
@@ -21,33 +23,46 @@ pub(crate) type Slot<J> = Option<Entry<J, <J as Work>::Done>>;
 
 pub(crate) type Board<J> = Table<Slot<J>, View<J>, (), Tickets, Global>;
 
-// The words of the table.
-pub(crate) const LIMIT: usize = 0;
+// The words of the table lie 64 bytes apart, so that seats that write different words do not disturb each other.
+pub(crate) const WORDS: usize = 25;
 
-pub(crate) const CLAIM: usize = 1;
+/// The number of tickets published, with the top bit where the ring is closed. The owner writes it.
+const LIMIT: usize = 0;
 
-pub(crate) const DONE: usize = 2;
+/// The number of tickets claimed. Each seat writes it.
+const CLAIM: usize = 8;
 
-/// No rule speaks of this word. It changes with each publish and close, so that a hand that rests on it misses none.
-pub(crate) const BELL: usize = 3;
+/// The number of tickets given back. Each seat writes it.
+const DONE: usize = 16;
+
+/// No rule speaks of this word. It rises with each publish and close, so that a hand that rests on it misses none.
+const BELL: usize = 24;
 
 /// The bit of the limit's word that says that the ring is closed.
-pub(crate) const TOP_BIT: u64 = 1 << 63;
+const TOP_BIT: u64 = 1 << 63;
 
 /// How many slots a ring has. The slot of a ticket is the ticket modulo this number.
 pub(crate) const SLOTS: u64 = 4096;
 
-pub(crate) fn slot_index(ticket: u64) -> usize
+fn slot_index(ticket: u64) -> usize
     ensures { result ≡ slot_of ticket }
 {
     (ticket % SLOTS) as usize
 }
 
+fn word_of_limit(limit: u64, closed: bool) -> u64
+    requires { limit ≤ MAX_TICKETS }
+    ensures { result ≡ limit_word closed limit }
+{
+    if closed { limit + TOP_BIT } else { limit }
+}
+
+/// A seat at the table, with the table.
 #[derive(Drop)]
 pub struct Post<J: Work> {
     pub(crate) table: Arc<Board<J>, Global>,
     pub(crate) seat: Seat<Slot<J>, View<J>>,
-    ghost four_words: { (arc_value table).shared.table_id.words ≡ 4 },
+    ghost word_count: { (arc_value table).shared.table_id.words ≡ 25 },
     ghost seated: { seat.table_id ≡ (arc_value table).shared.table_id },
     ghost live: { seat.me.0.counts.role ≢ Spent },
     ghost carries: { seat.me.1 ≡ carried_by seat.me.0.counts.hand.held },
@@ -59,11 +74,10 @@ impl<J: Work> Post<J> {
     ghost use Rattle.ev_ring.specs.declared.view.Role.TheVariants.{Owner, Hand};
     ghost use Rattle.ev_seats.specs.Jobs.{job_of, without};
     ghost use Rattle.ev_ring.specs.Slots.{IsFree};
-    ghost use Rattle.ev_ring.specs.Seen.{IsSamePost, post_view};
-    ghost use Rattle.ev_ring.specs.Says.{Claims, HasJobs, MAX_TICKETS, saw_both, stocked, DoneSeen};
+    ghost use Rattle.ev_ring.specs.Seen.{IsSamePost, post_view, Holds, HoldsNothing, IsQuiet};
+    ghost use Rattle.ev_ring.specs.Says.{Claims, HasJobs, saw_both, stocked, DoneSeen};
     ghost use Rattle.ev_ring.specs.Steps.{saw_done, saw_claim, published_to, closed_view, IsLater, HasAll};
     ghost use Rattle.ev_ring.specs.Moves.{counting, gave_job, parted, new_hand, both};
-    ghost use Rattle.ev_ring.specs.Tally.{limit_word};
 
     // The limit, and then the claim.
     fn look(&mut self) -> (u64, u64)
@@ -77,8 +91,9 @@ impl<J: Work> Post<J> {
         (limit, claim)
     }
 
+    /// Claims the next ticket below the limit.
     pub(crate) fn claim(&mut self) -> Claim<J>
-        requires { (post_view self.old).counts.hand.held ≡ None }
+        requires { HoldsNothing (post_view self.old) }
         ensures post { IsSamePost self.old self.new }
         ensures answer { Claims (post_view self.old) result (post_view self.new) }
     {
@@ -101,8 +116,9 @@ impl<J: Work> Post<J> {
         }
     }
 
+    /// Gives the ticket back. The last one wakes the owner where it rests.
     pub(crate) fn give(&mut self, ticket: u64, done: J::Done)
-        requires held { (post_view self.old).counts.hand.held ≡ Some ticket }
+        requires held { Holds (post_view self.old) ticket }
         requires done { (job : _) × ((post_view self.old).job ≡ Some job) × J.belongs job done }
         ensures post { IsSamePost self.old self.new }
         ensures view { post_view self.new ≡ gave_job (post_view self.old) }
@@ -110,8 +126,10 @@ impl<J: Work> Post<J> {
         let shared = &self.table.shared;
         let entry = Some(Entry::Finished { ticket, done });
         drop(shared.exchange(&mut self.seat, slot_index(ticket), entry));
-        shared.fetch_add::<Giving>(&mut self.seat, DONE, 1);
-        shared.wake_one(DONE);
+        let before = shared.fetch_add::<Giving>(&mut self.seat, DONE, 1);
+        if before.wrapping_add(1) == shared.peek(LIMIT) {
+            shared.wake_one(DONE);
+        }
     }
 
     /// The number of tickets done.
@@ -127,7 +145,7 @@ impl<J: Work> Post<J> {
     /// Puts the job of this ticket into its slot.
     pub(crate) fn put<T: Ticketed>(&mut self, ticket: u64, job: J)
         requires named { ticket ≡ T.ticket }
-        requires owner { ((post_view self.old).counts.role ≡ Owner) × ((post_view self.old).counts.owner.is_quiet ≡ true) }
+        requires owner { ((post_view self.old).counts.role ≡ Owner) × IsQuiet (post_view self.old) }
         requires later { (post_view self.old).counts.owner.limit ≤ ticket }
         requires near { (u : ℕ) (other : _) → job_of u (post_view self.old).jobs ≡ Some other → (ticket < u) × (u < ticket + 4096) }
         ensures post { IsSamePost self.old self.new }
@@ -143,7 +161,7 @@ impl<J: Work> Post<J> {
     /// Takes what belongs to the job of this ticket.
     pub(crate) fn collect<T: Ticketed>(&mut self, ticket: u64) -> J::Done
         requires named { ticket ≡ T.ticket }
-        requires owner { ((post_view self.old).counts.role ≡ Owner) × ((post_view self.old).counts.owner.is_quiet ≡ true) }
+        requires owner { ((post_view self.old).counts.role ≡ Owner) × IsQuiet (post_view self.old) }
         requires published { ticket < (post_view self.old).counts.owner.limit }
         requires there { (job : _) × (job_of ticket (post_view self.old).jobs ≡ Some job) }
         ensures post { IsSamePost self.old self.new }
@@ -160,16 +178,18 @@ impl<J: Work> Post<J> {
         }
     }
 
-    pub(crate) fn publish(&mut self, limit: u64)
-        requires owner { ((post_view self.old).counts.role ≡ Owner) × ((post_view self.old).counts.owner.is_quiet ≡ true) }
-        requires unclosed { (post_view self.old).counts.owner.is_closed ≡ false }
+    /// Raises the limit.
+    pub(crate) fn publish(&mut self, limit: u64, closed: bool)
+        requires owner { ((post_view self.old).counts.role ≡ Owner) × IsQuiet (post_view self.old) }
+        requires closed { closed ≡ (post_view self.old).counts.owner.is_closed }
         requires room { ((post_view self.old).counts.owner.limit ≤ limit) × (limit ≤ MAX_TICKETS) }
         requires jobs { HasJobs (post_view self.old).counts.owner.limit limit (post_view self.old).jobs }
         ensures post { IsSamePost self.old self.new }
         ensures view { post_view self.new ≡ counting (post_view self.old) (published_to limit (post_view self.old).counts) }
     {
+        let word = word_of_limit(limit, closed);
         let shared = &self.table.shared;
-        shared.store::<Publishing>(&mut self.seat, LIMIT, limit);
+        shared.store::<Publishing>(&mut self.seat, LIMIT, word);
         self.ring_bell();
     }
 
@@ -198,15 +218,16 @@ impl<J: Work> Post<J> {
         self.table.shared.park(rt, DONE, low_bits(done));
     }
 
-    /// Sets the top bit of the limit.
+    /// Sets the top bit of the limit's word.
     pub(crate) fn close(&mut self, limit: u64)
         requires owner { (post_view self.old).counts.role ≡ Owner }
-        requires limit { limit ≡ limit_word true (post_view self.old).counts.owner.limit }
+        requires limit { (limit ≡ (post_view self.old).counts.owner.limit) × (limit ≤ MAX_TICKETS) }
         ensures post { IsSamePost self.old self.new }
         ensures view { post_view self.new ≡ counting (post_view self.old) (closed_view (post_view self.old).counts) }
     {
+        let word = word_of_limit(limit, true);
         let shared = &self.table.shared;
-        shared.store::<Closing>(&mut self.seat, LIMIT, limit);
+        shared.store::<Closing>(&mut self.seat, LIMIT, word);
         self.ring_bell();
     }
 
@@ -226,7 +247,7 @@ impl<J: Work> Post<J> {
     /// Takes in a hand's seat, and then loads the claim.
     pub(crate) fn join(&mut self, hand: Post<J>) -> u64
         requires owner { (post_view self.old).counts.role ≡ Owner }
-        requires hand { (hand.seat.table_id ≡ self.old.seat.table_id) × ((post_view hand).counts.role ≡ Hand) × ((post_view hand).counts.hand.held ≡ None) }
+        requires hand { (hand.seat.table_id ≡ self.old.seat.table_id) × ((post_view hand).counts.role ≡ Hand) × HoldsNothing (post_view hand) }
         ensures post { IsSamePost self.old self.new }
         ensures view { let joined = both (post_view self.old) (post_view hand) in post_view self.new ≡ counting joined (saw_claim result joined.counts) }
         ensures all { HasAll (post_view self.new).counts result }

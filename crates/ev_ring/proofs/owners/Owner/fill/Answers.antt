@@ -4,10 +4,10 @@ use Rattle.ev_ring.proofs.Filling.{none_put, one_put, near_put, last_put, popped
 use Rattle.ev_ring.proofs.owners.Owner.fill.Goals as goal
 
 pub loop-job-init : goal.loop-job-init
-loop-job-init g c = record { same = (refl, refl); limit = refl; put = ([], sym (append-nil _), none_put 0 _ c.requires.back c.args.self.now.post.none_out) }
+loop-job-init g c = record { same = (refl, refl); limit = refl; put = ([], sym (append-nil _), none_put (c.args.self.now.limit + vec_len c.args.jobs.now) _ c.requires.back c.args.self.now.post.none_out) }
 
 pub put-requires-clause-owner : goal.put-requires-clause-owner
-put-requires-clause-owner g c = (c.loop-job.self.is_owner, ap (λ v. v.counts.owner.is_quiet) c.loop-job.invariant.put.2.2 ∙ c.requires.quiet)
+put-requires-clause-owner g c = (c.loop-job.self.is_owner, ap (λ v. v.counts.owner.is_quiet) c.loop-job.invariant.put.2 ∙ c.requires.quiet)
 
 pub put-requires-clause-near : goal.put-requires-clause-near
 put-requires-clause-near g c =

@@ -1,7 +1,7 @@
 use Rattle.std.proofs.Common.{rules, refl, ap, ◌∙◌, Some}
 use Rattle.ev_ring.specs.declared.view.Entry.TheVariants.{Waiting}
 use Rattle.ev_seats.proofs.Lists.{first_slot}
-use Rattle.ev_ring.proofs.Rings.{claims}
+use Rattle.ev_ring.proofs.HandSteps.{claims}
 use Rattle.ev_ring.proofs.posts.Post.claim.Goals as goal
 
 pub compare_exchange-found-requires : goal.compare_exchange-found-requires

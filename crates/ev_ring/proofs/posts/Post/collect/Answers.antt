@@ -4,7 +4,7 @@ use Rattle.ev_ring.specs.Slots.{slot_of}
 use Rattle.ev_ring.specs.declared.view.Entry.TheVariants.{Finished}
 use Rattle.ev_ring.proofs.Calls.{gives_blank}
 use Rattle.ev_seats.proofs.Lists.{first_slot}
-use Rattle.ev_ring.proofs.Rings.{collects}
+use Rattle.ev_ring.proofs.OwnerSteps.{collects}
 use Rattle.ev_ring.proofs.posts.Post.collect.Goals as goal
 
 pub load-requires : goal.load-requires

@@ -1,5 +1,5 @@
 use Rattle.std.proofs.Common.{rules}
-use Rattle.ev_ring.proofs.Rings.{sees_done}
+use Rattle.ev_ring.proofs.OwnerSteps.{sees_done}
 use Rattle.ev_ring.proofs.posts.Post.done.Goals as goal
 
 pub load-requires : goal.load-requires

@@ -1,5 +1,6 @@
 use Rattle.std.proofs.Common.{rules}
-use Rattle.ev_ring.proofs.Rings.{joins, sees_claim}
+use Rattle.ev_ring.proofs.Seats.{joins}
+use Rattle.ev_ring.proofs.HandSteps.{sees_claim}
 use Rattle.ev_ring.proofs.posts.Post.join.Goals as goal
 
 pub join_seat-requires : goal.join_seat-requires

@@ -1,5 +1,5 @@
 use Rattle.std.proofs.Common.{rules}
-use Rattle.ev_ring.proofs.Rings.{sees_limit, sees_claim}
+use Rattle.ev_ring.proofs.HandSteps.{sees_limit, sees_claim}
 use Rattle.ev_ring.proofs.posts.Post.look.Goals as goal
 
 pub load-limit-requires : goal.load-limit-requires

@@ -1,5 +1,5 @@
 use Rattle.std.proofs.Common.{rules}
-use Rattle.ev_ring.proofs.Rings.{splits}
+use Rattle.ev_ring.proofs.Seats.{splits}
 use Rattle.ev_ring.proofs.posts.Post.part.Goals as goal
 
 pub split_seat-seat-requires : goal.split_seat-seat-requires

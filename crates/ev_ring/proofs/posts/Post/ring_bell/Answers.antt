@@ -1,5 +1,5 @@
 use Rattle.std.proofs.Common.{rules}
-use Rattle.ev_ring.proofs.Rings.{rings}
+use Rattle.ev_ring.proofs.HandSteps.{rings}
 use Rattle.ev_ring.proofs.posts.Post.ring_bell.Goals as goal
 
 pub fetch_add-requires : goal.fetch_add-requires
