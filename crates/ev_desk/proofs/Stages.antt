@@ -1,9 +1,11 @@
 -- The stages that the asker's code keeps are those of its view.
-use Rattle.std.proofs.Common.{◌≡◌, ◌≢◌, ℕ, zero, suc, ◌+◌, ◌<◌, List, replicate, map, set, get_or, length, length-set, sym, refl, ap, ◌∙◌, set-set, get_or-set_other, arith}
+use Rattle.std.proofs.Common.{◌≡◌, ◌≢◌, ℕ, zero, suc, ◌+◌, ◌<◌, List, replicate, map, set, get_or, length, length-set, sym, refl, ap, ◌∙◌, subst, set-set, get_or-set_other, arith}
 use Rattle.std.specs.Prelude.{Some}
+use mathlib.Core.Logic.{dite}
+use native.Mathlib.Decide.{ℕ_discrete}
 use Rattle.ev_seats.specs.Jobs.{job_of}
 use Rattle.ev_seats.proofs.Jobs.{first_here}
-use Rattle.ev_desk.specs.Says.{stage_at, asked_at, saw_busy, collected}
+use Rattle.ev_desk.specs.Says.{stage_at, asked_at, saw_busy, collected, taken_back, found_late}
 use Rattle.ev_desk.specs.declared.view.Stage.TheVariants.{Free, Asked, Ended, Closed}
 use Rattle.ev_desk.specs.declared.view.View.{View}
 use Rattle.ev_desk.proofs.Calls.{in_range, spot_set}
@@ -58,6 +60,25 @@ module _ {J : Type 0} where
 
   pub collected_else : (v w : View J) (p q word : ℕ) → w ≡ collected p word v → q ≢ p → stage_at q w ≡ stage_at q v
   collected_else v w p q word is n = ap (λ (u : View J). stage_at q u) is ∙ (ap (λ (x : Spot). x.stage) (stage_else (set v.counts.asker.spots p _) p q _ n) ∙ ap (λ (x : Spot). x.stage) (stage_else v.counts.asker.spots p q _ n))
+
+  -- the job of p was withdrawn
+  pub back_here : (v w : View J) (p : ℕ) → stage_at p v ≡ Asked → w ≡ taken_back p v → stage_at p w ≡ Free
+  back_here v w p asked is = let spots = v.counts.asker.spots in let lt : p < length spots = in_range spots p (λ h. let x : Asked ≡ Closed = sym asked ∙ h in cc) in
+      ap (λ (u : View J). stage_at p u) is ∙ ap (λ (x : Spot). x.stage) (spot_set (set spots p _) p _ (omega (arith, length-set spots p record { stage = Free; word = (spot_at p spots).word; looks = (spot_at p spots).looks })))
+
+  pub back_else : (v w : View J) (p q : ℕ) → w ≡ taken_back p v → q ≢ p → stage_at q w ≡ stage_at q v
+  back_else v w p q is n = ap (λ (u : View J). stage_at q u) is ∙ (ap (λ (x : Spot). x.stage) (stage_else (set v.counts.asker.spots p _) p q _ n) ∙ ap (λ (x : Spot). x.stage) (stage_else v.counts.asker.spots p q _ n))
+
+  -- a withdrawal came late
+  pub late_same : (v w : View J) (p q word : ℕ) → stage_at p v ≡ Asked → w ≡ found_late p word v → stage_at q w ≡ stage_at q v
+  late_same v w p q word asked is = ap (λ (u : View J). stage_at q u) is ∙ dite (ℕ_discrete q p)
+      (λ e. subst (λ (k : ℕ). stage_at k (found_late p word v) ≡ stage_at k v) (sym e) (ap (λ (x : Spot). x.stage) (spot_set v.counts.asker.spots p _ (in_range v.counts.asker.spots p (λ h. let x : Asked ≡ Closed = sym asked ∙ h in cc)))))
+      (λ n. ap (λ (x : Spot). x.stage) (stage_else v.counts.asker.spots p q _ n))
+
+  pub busy_same : (v w : View J) (p q word : ℕ) → stage_at p v ≡ Asked → w ≡ saw_busy p word v → stage_at q w ≡ stage_at q v
+  busy_same v w p q word asked is = dite (ℕ_discrete q p)
+      (λ e. subst (λ (k : ℕ). stage_at k w ≡ stage_at k v) (sym e) (busy_here v w p word asked is ∙ sym asked))
+      (λ n. busy_else v w p q word is n)
 
 fresh_spot : (n p : ℕ) → p < n → spot_at p (replicate n free_spot) ≡ free_spot
 fresh_spot zero p lt = absurd (omega arith)

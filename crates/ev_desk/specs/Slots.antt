@@ -1,5 +1,5 @@
--- The rule of the desk over its words, its slots and the views of all seats. Place p has word p and slot p. The last word is the bell.
-use Rattle.std.specs.Prelude.{◌≡◌, ◌≢◌, ℕ, Bool, true, false, List, [], ◌∷◌, ◌++◌, map, length, Option, Some, None}
+-- The rule of the desk over its words, its slots and the views of all seats. Place p has word 8 p and slot p. The last word is the bell.
+use Rattle.std.specs.Prelude.{◌≡◌, ◌≢◌, ℕ, ◌/◌, Bool, true, false, List, [], ◌∷◌, ◌++◌, map, length, Option, Some, None}
 use mathlib.Core.Option as maybe
 use lib.ListN.{get_elem?}
 use Rattle.atomic_table.specs.Table.{State}
@@ -14,6 +14,15 @@ use Rattle.ev_desk.specs.declared.view.Counts.{Counts}
 use Rattle.ev_desk.specs.declared.view.View.{View}
 use Rattle.ev_desk.specs.declared.view.Entry.{Entry}
 use Rattle.ev_desk.specs.declared.view.Entry.TheVariants.{Waiting, Finished}
+
+-- the words of places lie in the table so. Seven that nothing uses come after each, so that no two share 64 bytes
+abbrev pub spread : List ℕ → List ℕ
+spread [] = []
+spread (word ∷ words) = word ∷ 0 ∷ 0 ∷ 0 ∷ 0 ∷ 0 ∷ 0 ∷ 0 ∷ spread words
+
+-- the place that a word of the table is of
+unfoldable pub place_of : ℕ → ℕ
+place_of i = i / 8
 
 -- what a slot holds, if anything
 abbrev pub Slot : Type 0 → Type 0 → Type 0
@@ -50,7 +59,7 @@ pub record Desk {J E : Type 0} (belongs : J → E → Type 0) (faulty : E → Bo
   pub places : List ℕ
   -- the bell, of which nothing is known. The loader rests on it
   pub bell : ℕ
-  pub words_are : s.words ≡ places ++ bell ∷ []
+  pub words_are : s.words ≡ spread places ++ bell ∷ []
   pub tally : Tally places (map counts_of s.views)
   pub many : length s.homes ≡ 64
   pub chair : ℕ
@@ -60,13 +69,13 @@ pub record Desk {J E : Type 0} (belongs : J → E → Type 0) (faulty : E → Bo
   pub shelf : Shelf belongs faulty places s.homes s.views asker.counts.asker.spots asker.jobs asker.out
 
 abbrev pub opening_view : {J : Type 0} → View J
-opening_view = record { counts = opening_counts; jobs = []; out = None; job = None }
+opening_view = record { counts = opening_counts; jobs = []; asked = []; back = []; out = None; job = None }
 
 abbrev pub loader_view : {J : Type 0} → View J
-loader_view = record { counts = new_loader; jobs = []; out = None; job = None }
+loader_view = record { counts = new_loader; jobs = []; asked = []; back = []; out = None; job = None }
 
 abbrev pub spent_view : {J : Type 0} → View J
-spent_view = record { counts = spent_counts; jobs = []; out = None; job = None }
+spent_view = record { counts = spent_counts; jobs = []; asked = []; back = []; out = None; job = None }
 
 -- the slots that a seat has out between its calls: that of the place that it holds, which it emptied
 abbrev pub carried_by : {J E : Type 0} → Option ℕ → List (ℕ × Slot J E)

@@ -8,6 +8,7 @@
 mod answers;
 mod askers;
 mod errand;
+mod laws;
 mod loaders;
 mod opening;
 mod plays;
@@ -17,6 +18,7 @@ mod view;
 pub use answers::{Ask, Collect, TakeJob, Withdraw};
 pub use askers::Asker;
 pub use errand::Errand;
+pub use laws::each_job_comes_back_once;
 pub use loaders::Loader;
 pub use opening::desk;
 pub use plays::Errands;

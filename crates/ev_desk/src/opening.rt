@@ -8,7 +8,7 @@ use crate::NoMemory;
 use crate::askers::Asker;
 use crate::errand::Errand;
 use crate::loaders::Loader;
-use crate::posts::{Board, PLACES, Post};
+use crate::posts::{Board, PLACES, Post, WORDS};
 use crate::view::Stage;
 use atomic_table::Table;
 use std::alloc::Global;
@@ -18,12 +18,13 @@ use std::sync::Arc;
 fn open<J: Errand<E>, E: Drop>(alloc: Global) -> Result<Post<J, E>, NoMemory>
     ensures { IfOk result (λ post. post.seat.me.0 ≡ opening_view) }
 {
-    let (table, seat) = Board::<J, E>::vacant(alloc, &[0; 65], PLACES, &())?;
+    let (table, seat) = Board::<J, E>::vacant(alloc, &[0; WORDS], PLACES, &())?;
     let table = Arc::new(alloc, table).map_err(|_| NoMemory)?;
     Ok(Post { table, seat })
 }
 
-/// Makes a desk, on which all places are free.
+/// Makes a desk of 64 places, all of which are free. NoMemory where there is none for the table or the list of stages
+/// (docs/THREADS.md, The desk).
 pub fn desk<J: Errand<E>, E: Drop>(alloc: Global) -> Result<(Asker<J, E>, Loader<J, E>), NoMemory>
     ensures asker { IfOk result (λ d. asker_view d.0 ≡ parted opening_view) }
     ensures loader { IfOk result (λ d. (loader_view d.1 ≡ new_loader_view) × IsOf d.0 d.1) }
@@ -37,6 +38,7 @@ pub fn desk<J: Errand<E>, E: Drop>(alloc: Global) -> Result<(Asker<J, E>, Loader
         Loader {
             post: loader,
             bell: 0,
+            start: 0,
         },
     ))
 }

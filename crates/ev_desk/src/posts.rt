@@ -1,7 +1,7 @@
 //! A seat at the desk's table, as the asker and the loader have one.
-ghost use Rattle.std.specs.Prelude.{◌≡◌, None};
+ghost use Rattle.std.specs.Prelude.{◌≡◌, ◌*◌, ◌<◌, None};
 ghost use Rattle.std.specs.Arc.{arc_value};
-ghost use Rattle.ev_desk.specs.Slots.{carried_by, end_word};
+ghost use Rattle.ev_desk.specs.Slots.{carried_by, end_word, place_of};
 
 use crate::NoMemory;
 use crate::errand::Errand;
@@ -22,22 +22,33 @@ pub(crate) type Board<J, E> = Table<Slot<J, E>, View<J>, (), Errands, Global>;
 /// How many places a desk has.
 pub(crate) const PLACES: usize = 64;
 
-/// The word after those of the places. No rule speaks of it. It changes with each job that is left and with the close,
-/// so that a loader that rests on it misses none.
-pub(crate) const BELL: usize = 64;
+// The words of the places lie 64 bytes apart, so that the asker at one place and the loader at another do not disturb each
+// other. After them comes the bell. No rule speaks of it. It changes with each job that is left and with the close, so that
+// a loader that rests on it misses none.
+pub(crate) const WORDS: usize = 513;
+
+const BELL: usize = 512;
+
+fn word_index(place: usize) -> usize
+    requires { place < 64 }
+    ensures at { result ≡ place * 8 }
+    ensures back { place_of result ≡ place }
+{
+    place * 8
+}
 
 // What the word of a place says.
-pub(crate) const FREE: u64 = 0;
+const FREE: u64 = 0;
 
-pub(crate) const ASKED: u64 = 1;
+const ASKED: u64 = 1;
 
-pub(crate) const TAKEN: u64 = 2;
+const TAKEN: u64 = 2;
 
-pub(crate) const ENDED: u64 = 3;
+const ENDED: u64 = 3;
 
 pub(crate) const CLOSED: u64 = 4;
 
-pub(crate) const FAULT: u64 = 5;
+const FAULT: u64 = 5;
 
 // The word of a place where this end lies.
 fn word_of_end<J: Errand<E>, E: Drop>(end: &E) -> u64
@@ -46,18 +57,19 @@ fn word_of_end<J: Errand<E>, E: Drop>(end: &E) -> u64
     if J::faulted(end) { FAULT } else { ENDED }
 }
 
+/// A seat at the table, with the table.
 #[derive(Drop)]
 pub struct Post<J: Errand<E>, E: Drop> {
     pub(crate) table: Arc<Board<J, E>, Global>,
     pub(crate) seat: Seat<Slot<J, E>, View<J>>,
-    ghost word_count: { (arc_value table).shared.table_id.words ≡ 65 },
+    ghost word_count: { (arc_value table).shared.table_id.words ≡ 513 },
     ghost seated: { seat.table_id ≡ (arc_value table).shared.table_id },
     ghost carries: { seat.me.1 ≡ carried_by seat.me.0.counts.loader.held },
     ghost none_out: { seat.me.0.out ≡ None },
 }
 
 impl<J: Errand<E>, E: Drop> Post<J, E> {
-    ghost use Rattle.std.specs.Prelude.{◌<◌, ◌≤◌, Some, IfOk, MatchResult};
+    ghost use Rattle.std.specs.Prelude.{◌≤◌, Some, IfOk, MatchResult};
     ghost use Rattle.ev_desk.specs.declared.view.Role.TheVariants.{Asker, Loader};
     ghost use Rattle.ev_desk.specs.declared.view.Stage.TheVariants.{Free, Asked, Closed};
     ghost use Rattle.ev_desk.specs.Seen.{IsSamePost, post_view};
@@ -74,11 +86,12 @@ impl<J: Errand<E>, E: Drop> Post<J, E> {
         ensures post { IsSamePost self.old self.new }
         ensures view { post_view self.new ≡ asked_at place job (post_view self.old) }
     {
+        let word = word_index(place);
         let shared = &self.table.shared;
-        shared.load::<Emptying>(&mut self.seat, place);
+        shared.load::<Emptying>(&mut self.seat, word);
         let entry = Some(Entry::Waiting { job });
         drop(shared.exchange(&mut self.seat, place, entry));
-        shared.store::<Leaving>(&mut self.seat, place, ASKED);
+        shared.store::<Leaving>(&mut self.seat, word, ASKED);
         self.ring_bell();
     }
 
@@ -90,13 +103,14 @@ impl<J: Errand<E>, E: Drop> Post<J, E> {
         ensures post { IsSamePost self.old self.new }
         ensures answer { Ends J.belongs J.faulty place (post_view self.old) result (post_view self.new) }
     {
+        let word = word_index(place);
         let shared = &self.table.shared;
-        let word = shared.load::<Looking>(&mut self.seat, place);
-        if word < ENDED {
-            return Err(word);
+        let found = shared.load::<Looking>(&mut self.seat, word);
+        if found < ENDED {
+            return Err(found);
         }
         let entry = shared.exchange(&mut self.seat, place, None);
-        shared.store::<Freeing>(&mut self.seat, place, FREE);
+        shared.store::<Freeing>(&mut self.seat, word, FREE);
         match entry {
             Some(Entry::Finished { job, end }) => Ok((job, end)),
             _ => unreachable!(),
@@ -111,13 +125,14 @@ impl<J: Errand<E>, E: Drop> Post<J, E> {
         ensures post { IsSamePost self.old self.new }
         ensures answer { Backs place (post_view self.old) result (post_view self.new) }
     {
+        let word = word_index(place);
         let shared = &self.table.shared;
-        let found = shared.compare_exchange::<Withdrawing>(&mut self.seat, place, ASKED, FREE);
+        let found = shared.compare_exchange::<Withdrawing>(&mut self.seat, word, ASKED, FREE);
         if found != ASKED {
             return Err(found);
         }
         let entry = shared.exchange(&mut self.seat, place, None);
-        shared.load::<Returning>(&mut self.seat, place);
+        shared.load::<Returning>(&mut self.seat, word);
         match entry {
             Some(Entry::Waiting { job }) => Ok(job),
             _ => unreachable!(),
@@ -132,8 +147,9 @@ impl<J: Errand<E>, E: Drop> Post<J, E> {
         ensures post { IsSamePost self.old self.new }
         ensures view { post_view self.new ≡ counting (post_view self.old) (staged place Closed (post_view self.old).counts) }
     {
+        let word = word_index(place);
         let shared = &self.table.shared;
-        shared.store::<Shutting>(&mut self.seat, place, CLOSED);
+        shared.store::<Shutting>(&mut self.seat, word, CLOSED);
     }
 
     /// Tries to take the job of this place, or tells the word that it found there.
@@ -144,8 +160,9 @@ impl<J: Errand<E>, E: Drop> Post<J, E> {
         ensures post { IsSamePost self.old self.new }
         ensures answer { Attempts place (post_view self.old) result (post_view self.new) }
     {
+        let word = word_index(place);
         let shared = &self.table.shared;
-        let found = shared.compare_exchange::<Trying>(&mut self.seat, place, ASKED, TAKEN);
+        let found = shared.compare_exchange::<Trying>(&mut self.seat, word, ASKED, TAKEN);
         if found != ASKED {
             return Err(found);
         }
@@ -166,12 +183,13 @@ impl<J: Errand<E>, E: Drop> Post<J, E> {
         ensures post { IsSamePost self.old self.new }
         ensures view { post_view self.new ≡ doing (post_view self.old) (ended_with (end_word (J.faulty end)) (post_view self.old).counts) None }
     {
-        let word = word_of_end::<J, E>(&end);
+        let end_word = word_of_end::<J, E>(&end);
+        let word = word_index(place);
         let shared = &self.table.shared;
         let entry = Some(Entry::Finished { job, end });
         drop(shared.exchange(&mut self.seat, place, entry));
-        shared.swap::<Ending>(&mut self.seat, place, word);
-        shared.wake_one(place);
+        shared.swap::<Ending>(&mut self.seat, word, end_word);
+        shared.wake_one(word);
     }
 
     /// Wakes the loader where it rests.
@@ -198,9 +216,10 @@ impl<J: Errand<E>, E: Drop> Post<J, E> {
     pub(crate) fn rest_on_place<R: Wait>(&self, rt: &R, place: usize)
         requires { place < 64 }
     {
-        let word = self.table.shared.peek(place);
-        if word < ENDED {
-            self.table.shared.park(rt, place, low_bits(word));
+        let word = word_index(place);
+        let found = self.table.shared.peek(word);
+        if found < ENDED {
+            self.table.shared.park(rt, word, low_bits(found));
         }
     }
 

@@ -15,3 +15,12 @@ without n (x ∷ xs) = cond (x.0 == n) (without n xs) (x ∷ without n xs)
 abbrev pub numbered : {J : Type 0} → ℕ → List J → List (ℕ × J)
 numbered n [] = []
 numbered n (job ∷ jobs) = (n, job) ∷ numbered (n + 1) jobs
+
+-- the jobs, with this one, if it is one
+abbrev pub with_job : {J : Type 0} → ℕ → Option J → List (ℕ × J) → List (ℕ × J)
+with_job n None jobs = jobs
+with_job n (Some job) jobs = (n, job) ∷ jobs
+
+-- it counts the jobs of a number
+abbrev pub is_at : {J : Type 0} → ℕ → ℕ × J → ℕ
+is_at n x = cond (x.0 == n) 1 0
