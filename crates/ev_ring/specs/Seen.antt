@@ -61,3 +61,7 @@ module _ {J D : Type 0} where
   -- the owner of a ring that was just made, with so many hands
   abbrev pub OpensWith : ℕ → Owner J D → Type 0
   OpensWith hands owner = let opened : View J = opening_view in owner_view owner ≡ counting opened (with_owner opened.counts record opened.counts.owner { hands_out = hands })
+
+  -- a hand that holds no ticket
+  abbrev pub IsFreeHand : Hand J D → Type 0
+  IsFreeHand hand = HoldsNothing (hand_view hand)

@@ -12,6 +12,8 @@ mod opening;
 mod owners;
 mod plays;
 mod posts;
+#[cfg(test)]
+mod tests;
 mod view;
 mod work;
 

@@ -88,3 +88,20 @@ module _ {J : Type 0} where
   pub one_there : (n : ℕ) (xs : List (ℕ × J)) → 1 ≤ total (is_at n) xs → (j : J) × (job_of n xs ≡ Some j)
   one_there n [] z = absurd (omega arith)
   one_there n (x ∷ xs) z = dite (ℕ_discrete x.0 n) (λ h. (x.1, first_here n x xs h)) (λ h. let r = one_there n xs (omega (arith, at-other n x h)) in (r.0, first_else n x xs h ∙ r.1))
+
+  -- the first of numbered jobs, and those that are left without it
+  pub first_in : (n : ℕ) (js : List J) → 1 ≤ length js → (j : J) × (job_of n (numbered n js) ≡ Some j)
+  first_in n [] some = absurd (omega arith)
+  first_in n (x ∷ js) some = (x, first_here n (n, x) (numbered (n + 1) js) refl)
+
+  above : (n m : ℕ) (js : List J) → n < m → without n (numbered m js) ≡ numbered m js
+  above n m [] lt = refl
+  above n m (x ∷ js) lt = without_step n n (m, x) (numbered (m + 1) js) _ refl (λ l. l ≡ (m, x) ∷ numbered (m + 1) js) (λ h. absurd (omega arith)) (λ h. ap (λ (l : List (ℕ × J)). (m, x) ∷ l) (above n (m + 1) js (omega arith)))
+
+  pub first_out : (n : ℕ) (js : List J) → 1 ≤ length js → (rest : List J) × (without n (numbered n js) ≡ numbered (n + 1) rest) × (length rest + 1 ≡ length js)
+  first_out n [] some = absurd (omega arith)
+  first_out n (x ∷ js) some = (
+    js,
+    without_step n n (n, x) (numbered (n + 1) js) _ refl (λ l. l ≡ numbered (n + 1) js) (λ h. above n (n + 1) js (omega arith)) (λ h. absurd (h refl)),
+    omega arith,
+  )
