@@ -5,7 +5,7 @@ use mathlib.Core.Logic.{dite}
 use native.Mathlib.Decide.{ℕ_discrete}
 use Rattle.ev_seats.specs.Jobs.{job_of}
 use Rattle.ev_seats.proofs.Jobs.{first_here}
-use Rattle.ev_desk.specs.Says.{stage_at, asked_at, saw_busy, collected, taken_back, found_late}
+use Rattle.ev_desk.specs.Says.{stage_at, IsIdle, IsOnlyAsked, asked_at, saw_busy, collected, taken_back, found_late}
 use Rattle.ev_desk.specs.declared.view.Stage.TheVariants.{Free, Asked, Ended, Closed}
 use Rattle.ev_desk.specs.declared.view.View.{View}
 use Rattle.ev_desk.proofs.Calls.{in_range, spot_set}
@@ -80,11 +80,27 @@ module _ {J : Type 0} where
       (λ e. subst (λ (k : ℕ). stage_at k w ≡ stage_at k v) (sym e) (busy_here v w p word asked is ∙ sym asked))
       (λ n. busy_else v w p q word is n)
 
+  -- a desk on which one place is asked
+  pub only_asked : (v w : View J) (p : ℕ) (job : J) → IsIdle v → stage_at p v ≡ Free → w ≡ asked_at p job v → IsOnlyAsked p w
+  only_asked v w p job idle free is = ((asked_here v w p job free is).0, λ q lt n. asked_else v w p q job is n ∙ idle q lt)
+
+  pub only_still : (v w : View J) (p : ℕ) → IsOnlyAsked p v → ((q : ℕ) → stage_at q w ≡ stage_at q v) → IsOnlyAsked p w
+  only_still v w p only same = (same p ∙ only.0, λ q lt n. same q ∙ only.1 q lt n)
+
+  idle_after : (v w : View J) (p : ℕ) → IsOnlyAsked p v → stage_at p w ≡ Free → ((q : ℕ) → q ≢ p → stage_at q w ≡ stage_at q v) → IsIdle w
+  idle_after v w p only free same q lt = dite (ℕ_discrete q p) (λ e. subst (λ (k : ℕ). stage_at k w ≡ Free) (sym e) free) (λ n. same q n ∙ only.1 q lt n)
+
+  pub idle_collected : (v w : View J) (p word : ℕ) → IsOnlyAsked p v → w ≡ collected p word v → IsIdle w
+  idle_collected v w p word only is = idle_after v w p only (collected_here v w p word only.0 is) (λ q n. collected_else v w p q word is n)
+
+  pub idle_back : (v w : View J) (p : ℕ) → IsOnlyAsked p v → w ≡ taken_back p v → IsIdle w
+  idle_back v w p only is = idle_after v w p only (back_here v w p only.0 is) (λ q n. back_else v w p q is n)
+
 fresh_spot : (n p : ℕ) → p < n → spot_at p (replicate n free_spot) ≡ free_spot
 fresh_spot zero p lt = absurd (omega arith)
 fresh_spot (suc n) zero lt = refl
 fresh_spot (suc n) (suc p) lt = fresh_spot n p (omega arith)
 
 -- each place of a new desk is free
-pub fresh_idle : {J : Type 0} (v : View J) → v ≡ parted opening_view → (p : ℕ) → p < 64 → stage_at p v ≡ Free
+pub fresh_idle : {J : Type 0} (v : View J) → v ≡ parted opening_view → IsIdle v
 fresh_idle {J} v is p lt = ap (λ (u : View J). stage_at p u) is ∙ ap (λ (x : Spot). x.stage) (fresh_spot 64 p lt)

@@ -47,6 +47,14 @@ module _ {J : Type 0} where
   abbrev pub try_at : ℕ → View J → Try
   try_at place v = try_of place v.counts
 
+  -- each place is free
+  abbrev pub IsIdle : View J → Type 0
+  IsIdle v = (place : ℕ) → place < 64 → stage_at place v ≡ Free
+
+  -- one place is asked, and each other one is free
+  abbrev pub IsOnlyAsked : ℕ → View J → Type 0
+  IsOnlyAsked place v = (stage_at place v ≡ Asked) × ((q : ℕ) → q < 64 → q ≢ place → stage_at q v ≡ Free)
+
   -- a job was left at a free place
   abbrev pub asked_at : ℕ → J → View J → View J
   asked_at place job v = record v { counts = staged place Asked (looked_at place 0 Free v.counts); jobs = (place, job) ∷ v.jobs; asked = (place, job) ∷ v.asked; out = None }

@@ -13,6 +13,8 @@ mod loaders;
 mod opening;
 mod plays;
 mod posts;
+#[cfg(test)]
+mod tests;
 mod view;
 
 pub use answers::{Ask, Collect, TakeJob, Withdraw};

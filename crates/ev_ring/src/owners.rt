@@ -148,12 +148,14 @@ impl<J: Work> Owner<J> {
         self.closed = true;
     }
 
-    /// Sleeps until each published ticket was given back, where `ready` answered No. It may also return for no reason
-    /// (docs/THREADS.md, Resting).
+    /// Sleeps until each published ticket was given back, and not at all where the last `ready` saw that. It may also return
+    /// for no reason (docs/THREADS.md, Resting).
     pub fn rest<R: Wait>(&mut self, rt: &R)
         ensures owner { IsSameOwner self.old self.new }
         ensures view { owner_view self.new ≡ owner_view self.old }
     {
-        self.post.rest_on_done(rt, self.done);
+        if self.done != self.limit {
+            self.post.rest_on_done(rt, self.done);
+        }
     }
 }
