@@ -2,7 +2,7 @@
 use Rattle.std.specs.Prelude.{◌≡◌, ℕ, ◌+◌, ◌*◌, ◌<◌, ◌≤◌, true, false, List, [], ◌∷◌, length, Some, None}
 use Rattle.ev_seats.specs.Jobs.{job_of, numbered}
 use Rattle.ev_ring.specs.Steps.{with_owner, saw_limit, saw_claim, lost_to, saw_done, published_to, IsLater}
-use Rattle.ev_ring.specs.Moves.{counting, got_job, Sees}
+use Rattle.ev_ring.specs.Moves.{counting, got_job, both, Sees}
 use Rattle.ev_ring.specs.declared.view.View.{View}
 use Rattle.ev_ring.specs.declared.answers.Claim.{Claim}
 use Rattle.ev_ring.specs.declared.answers.Claim.TheVariants.{Got, Empty, Lost, Closed}
@@ -34,6 +34,10 @@ module _ {J : Type 0} where
     jobs = jobs;
     out = None;
   }
+
+  -- an owner took in a hand's seat and then loaded the claim
+  abbrev pub joined : ℕ → View J → View J → View J
+  joined claim v w = let b : View J = both v w in counting b (saw_claim claim b.counts)
 
   -- Got: the limit loaded is not closed, and the ticket, which is the claim loaded, is below it.
   -- Empty: the claim loaded is not below the limit loaded.

@@ -19,7 +19,7 @@ mod work;
 
 pub use answers::{Claim, Ready};
 pub use hands::Hand;
-pub use laws::{empty_hands_leave_all, quiet_rings_are_idle};
+pub use laws::{each_ticket_is_got_once, empty_hands_leave_all, quiet_rings_are_idle};
 pub use opening::ring;
 pub use owners::Owner;
 pub use plays::Tickets;

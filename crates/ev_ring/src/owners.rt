@@ -31,9 +31,9 @@ impl<J: Work> Owner<J> {
     ghost use Rattle.ev_seats.specs.Jobs.{job_of, without};
     ghost use Rattle.ev_seats.specs.Weights.{IsEachBelow};
     ghost use Rattle.ev_ring.specs.Seen.{hand_view, owner_view, IsSameOwner, IsOf, IsFresh, Holds, HoldsNothing, IsQuiet};
-    ghost use Rattle.ev_ring.specs.Says.{Claims, Readies, MAX_TICKETS, stocked, filled, raised};
-    ghost use Rattle.ev_ring.specs.Steps.{saw_claim, closed_view};
-    ghost use Rattle.ev_ring.specs.Moves.{counting, gave_job, parted, both};
+    ghost use Rattle.ev_ring.specs.Says.{Claims, Readies, MAX_TICKETS, joined, stocked, filled, raised};
+    ghost use Rattle.ev_ring.specs.Steps.{closed_view};
+    ghost use Rattle.ev_ring.specs.Moves.{counting, gave_job, parted};
 
     // A new hand.
     pub(crate) fn part(&mut self) -> Result<Hand<J>, NoMemory>
@@ -130,7 +130,7 @@ impl<J: Work> Owner<J> {
         requires ring { IsOf self.old hand }
         requires free { HoldsNothing (hand_view hand) }
         ensures owner { IsSameOwner self.old self.new }
-        ensures view { let joined = both (owner_view self.old) (hand_view hand) in owner_view self.new ≡ counting joined (saw_claim (owner_view self.new).counts.hand.claim_read joined.counts) }
+        ensures view { owner_view self.new ≡ joined (owner_view self.new).counts.hand.claim_read (owner_view self.old) (hand_view hand) }
         ensures all { let after = (owner_view self.new).counts in after.owner.hands_out ≡ 0 → IsEachBelow after.hand.claim_read after.hand.got }
     {
         let Hand { post, bell: _ } = hand;

@@ -75,7 +75,7 @@ impl<J: Work> Post<J> {
     ghost use Rattle.ev_seats.specs.Jobs.{job_of, without};
     ghost use Rattle.ev_ring.specs.Slots.{IsFree};
     ghost use Rattle.ev_ring.specs.Seen.{IsSamePost, post_view, Holds, HoldsNothing, IsQuiet};
-    ghost use Rattle.ev_ring.specs.Says.{Claims, HasJobs, saw_both, stocked, DoneSeen};
+    ghost use Rattle.ev_ring.specs.Says.{Claims, HasJobs, joined, saw_both, stocked, DoneSeen};
     ghost use Rattle.ev_ring.specs.Steps.{saw_done, saw_claim, published_to, closed_view, IsLater, HasAll};
     ghost use Rattle.ev_ring.specs.Moves.{counting, gave_job, parted, new_hand, both};
 
@@ -249,7 +249,7 @@ impl<J: Work> Post<J> {
         requires owner { (post_view self.old).counts.role ≡ Owner }
         requires hand { (hand.seat.table_id ≡ self.old.seat.table_id) × ((post_view hand).counts.role ≡ Hand) × HoldsNothing (post_view hand) }
         ensures post { IsSamePost self.old self.new }
-        ensures view { let joined = both (post_view self.old) (post_view hand) in post_view self.new ≡ counting joined (saw_claim result joined.counts) }
+        ensures view { post_view self.new ≡ joined result (post_view self.old) (post_view hand) }
         ensures all { HasAll (post_view self.new).counts result }
     {
         let Post { table: _, seat } = hand;

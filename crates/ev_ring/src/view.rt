@@ -67,6 +67,8 @@ pub struct View<J> {
 /// What is in a slot that is not empty.
 #[derive(Drop)]
 pub enum Entry<J, D> {
+    /// A job that nobody claimed yet.
     Waiting { ticket: u64, job: J },
+    /// What came of the job.
     Finished { ticket: u64, done: D },
 }

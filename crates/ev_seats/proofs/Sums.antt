@@ -1,5 +1,5 @@
 -- Sums over lists that change at one place.
-use Rattle.std.proofs.Common.{◌≡◌, ℕ, zero, suc, ◌+◌, ◌≤◌, ◌≢◌, List, [], ◌∷◌, ◌++◌, set, replicate, sym, refl, ap, arith, cond, map, eq-eqb, ne_eqb}
+use Rattle.std.proofs.Common.{◌≡◌, ℕ, zero, suc, ◌+◌, ◌<◌, ◌≤◌, ◌≢◌, List, [], ◌∷◌, ◌++◌, set, replicate, sym, refl, ap, arith, cond, map, eq-eqb, ne_eqb}
 use mathlib.Core.Logic.{dite}
 use native.Mathlib.Decide.{ℕ_discrete}
 use mathlib.Core.Option.{some, some-injective, some-ne-none}
@@ -60,6 +60,16 @@ below-only k (suc n) =
     dite (ℕ_discrete n k)
     (λ e. let none-yet = before.1 (omega arith) in let one : only k n ≡ 1 = ap (λ b. cond b 1 0) (eq-eqb n k e) in (omega arith, λ h. absurd (omega arith)))
     (λ ne. let zero-here = only-other k n ne in (omega (arith, before.0), λ h. omega (arith, before.1 (omega arith))))
+
+-- each number below n stands there once, and no other
+pub below-in : (k n : ℕ) → k < n → below (only k) n ≡ 1
+below-in k zero lt = absurd (omega arith)
+below-in k (suc n) lt = dite (ℕ_discrete n k)
+    (λ e. let none-yet = (below-only k n).1 (omega arith) in let one : only k n ≡ 1 = ap (λ b. cond b 1 0) (eq-eqb n k e) in omega arith)
+    (λ ne. let zero-here = only-other k n ne in omega (arith, below-in k n (omega arith)))
+
+pub below-out : (k n : ℕ) → n ≤ k → below (only k) n ≡ 0
+below-out k n le = (below-only k n).1 le
 
 pub below-once : (k n : ℕ) → below (only k) n ≤ 1
 below-once k n = (below-only k n).0
