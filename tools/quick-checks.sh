@@ -10,7 +10,7 @@ complain() {
 [ "$(cat HANDLES)" = "Handles allowed: Threads, Wait." ] || complain "HANDLES isn't its one line"
 stray=$(git ls-files '*.rt' '*.antt' | grep -vE '^crates/[a-z0-9_]+/(src|specs|proofs)/')
 [ -z "$stray" ] || complain "Rattle files outside src/, specs/ and proofs/: $stray"
-listed=$(sed -n 's/^\([a-z0-9_]*\)\( [a-z]*\)*:.*/\1/p' crates.txt | sort)
+listed=$(sed -n 's/^\([a-z][a-z0-9_]*\)[ :].*/\1/p' crates.txt | sort)
 there=$(ls crates | sort)
 [ "$listed" = "$there" ] || complain "crates.txt and crates/ differ"
 for link in $(grep -ohE '\]\([A-Za-z0-9_./-]+\)' README.md | tr -d '])(' ); do
