@@ -1,5 +1,6 @@
 -- Pixels with premultiplied channels, and their arithmetic over whole numbers.
-use Rattle.std.specs.Prelude.{ℕ, ◌+◌, ◌-◌, ◌*◌, ◌/◌, ◌%◌, ◌<◌, ◌≤◌, min}
+use Rattle.std.specs.Prelude.{ℕ, ◌+◌, ◌-◌, ◌*◌, ◌/◌, ◌%◌, ◌<◌, ◌≤◌, ◌==◌, min, Bool, List}
+use Rattle.std.specs.List.{list_all}
 
 -- four channels from 0 to 255
 pub record Argb : Type 0 where
@@ -54,3 +55,7 @@ even_bytes word = word / 0x10000 % 0x100 * 0x10000 + word % 0x100
 -- the same two bytes, each times keep / 256
 abbrev pub scaled : ℕ → ℕ → ℕ
 scaled keep word = keep * (word / 0x10000 % 0x100) / 0x100 * 0x10000 + keep * (word % 0x100) / 0x100
+
+-- whether each alpha is 255
+abbrev pub are_opaque : List Argb → Bool
+are_opaque pixels = list_all (λ p. p.a == 255) pixels

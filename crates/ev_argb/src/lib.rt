@@ -11,4 +11,5 @@ mod tests;
 pub use picture::{MAX_SIDE, Picture};
 pub use pixel::{Pixel, mul, over, tint};
 pub use plane::{PLANE_SIDE, Plane};
+pub use span::are_opaque;
 pub use std::alloc::AllocError as NoMemory;

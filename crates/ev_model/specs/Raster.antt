@@ -1,7 +1,6 @@
 -- An image, as its size and its pixels.
-use Rattle.std.specs.Prelude.{◌≡◌, ℕ, Bool, ◌+◌, ◌*◌, ◌≤◌, ◌==◌, List, length, slice_range}
-use Rattle.std.specs.List.{list_all}
-use Rattle.ev_argb.specs.Argb.{Argb}
+use Rattle.std.specs.Prelude.{◌≡◌, ℕ, ◌+◌, ◌*◌, ◌≤◌, All, List, length, slice_range}
+use Rattle.ev_argb.specs.Argb.{Argb, IsPremultiplied}
 
 -- the pixels stand row by row from the top, and in a row from the left
 pub record Raster : Type 0 where
@@ -17,9 +16,10 @@ pub record IsRaster (image : Raster) : Type 0 where
   pub height_high : image.h ≤ 4096
   pub count : length image.pixels ≡ image.h * image.w
 
--- whether each alpha is 255
-abbrev pub is_opaque : List Argb → Bool
-is_opaque pixels = list_all (λ p. p.a == 255) pixels
+-- an image: a raster of premultiplied pixels
+pub record IsImage (image : Raster) : Type 0 where
+  pub raster : IsRaster image
+  pub premultiplied : All IsPremultiplied image.pixels
 
 -- the pixels of row y
 abbrev pub row : Raster → ℕ → List Argb

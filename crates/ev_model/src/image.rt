@@ -1,8 +1,9 @@
 // A decoded image over one vector. Clauses see its size and its pixels.
 ghost use Rattle.std.specs.Prelude.{◌≡◌, ◌<◌, ◌+◌, ◌*◌};
-ghost use Rattle.ev_model.specs.Raster.{Raster, IsRaster, is_opaque, row};
+ghost use Rattle.ev_model.specs.Raster.{Raster, IsRaster, IsImage, row};
+ghost use Rattle.ev_argb.specs.Argb.{are_opaque};
 
-use ev_argb::Pixel;
+use ev_argb::{Pixel, are_opaque};
 use std::marker::Model;
 
 /// An image of 1 to 4096 pixels each way. It knows whether it is opaque.
@@ -16,13 +17,14 @@ pub struct Image {
 
 impl Model for Image {
     ghost use Rattle.std.specs.Prelude.{◌≡◌};
-    ghost use Rattle.ev_model.specs.Raster.{Raster, IsRaster, is_opaque};
+    ghost use Rattle.ev_argb.specs.Argb.{are_opaque};
+    ghost use Rattle.ev_model.specs.Raster.{Raster, IsImage};
 
     ghost Value = { Raster };
 
     ghost view = { λ i. record { w = i.w; h = i.h; pixels = i.pixels.items } };
 
-    ghost invariant = { λ i. IsRaster (record { w = i.w; h = i.h; pixels = i.pixels.items }) × (i.opaque ≡ is_opaque i.pixels.items) };
+    ghost invariant = { λ i. IsImage (record { w = i.w; h = i.h; pixels = i.pixels.items }) × (i.opaque ≡ are_opaque i.pixels.items) };
 }
 
 impl Image {
@@ -43,7 +45,7 @@ impl Image {
     /// How many columns it has.
     pub fn width(&self) -> u32
         ensures value { result ≡ self.now.w }
-        ensures valid { IsRaster self.now }
+        ensures valid { IsImage self.now }
     {
         self.w
     }
@@ -51,14 +53,14 @@ impl Image {
     /// How many rows it has.
     pub fn height(&self) -> u32
         ensures value { result ≡ self.now.h }
-        ensures valid { IsRaster self.now }
+        ensures valid { IsImage self.now }
     {
         self.h
     }
 
     /// Whether all alphas are 255. It is found once, when the image is made.
     pub fn opaque(&self) -> bool
-        ensures { result ≡ is_opaque self.now.pixels }
+        ensures { result ≡ are_opaque self.now.pixels }
     {
         self.opaque
     }
@@ -66,7 +68,7 @@ impl Image {
     /// All pixels, row by row from the top.
     pub fn pixels(&self) -> &[Pixel]
         ensures value { result.now ≡ self.now.pixels }
-        ensures valid { IsRaster self.now }
+        ensures valid { IsImage self.now }
     {
         self.pixels.as_slice()
     }
@@ -75,16 +77,9 @@ impl Image {
     pub fn row(&self, y: u32) -> &[Pixel]
         requires { y < self.now.h }
         ensures value { result.now ≡ row self.now y }
-        ensures valid { IsRaster self.now }
+        ensures valid { IsImage self.now }
     {
         let from = y as usize * self.w as usize;
         &self.pixels[from..from + self.w as usize]
     }
-}
-
-// Whether all alphas are 255.
-fn are_opaque(pixels: &[Pixel]) -> bool
-    ensures { result ≡ is_opaque pixels.now }
-{
-    pixels.iter().all(|p| p.a() == 255)
 }
