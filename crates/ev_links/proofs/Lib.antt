@@ -1,0 +1,10 @@
+pub mod Ways
+pub mod Fits
+pub mod Counts
+pub mod Sound
+pub mod Views
+pub mod Whole
+pub mod TieEdits
+pub mod Faults
+pub mod Drops
+pub mod Sweeps
