@@ -1,0 +1,21 @@
+-- The siblings of each parent. Groups are a list: its head are the objects that stand in no object,
+-- and at the place of an id are the members of that object.
+use Rattle.std.specs.Prelude.{ℕ, ℤ, List, [], Option, Some, None, get_or, slice_set}
+use Rattle.ev_stack.specs.Order.{ids_of}
+
+-- where the group of a parent stands
+abbrev pub place : Option ℕ → ℕ
+place None = 0
+place (Some id) = id
+
+-- the siblings in a parent, none where the parent is unknown
+abbrev pub group : List (List (ℕ × ℤ)) → Option ℕ → List (ℕ × ℤ)
+group groups parent = get_or groups (place parent) []
+
+-- the groups with other siblings in a parent
+abbrev pub with_group : List (List (ℕ × ℤ)) → Option ℕ → List (ℕ × ℤ) → List (List (ℕ × ℤ))
+with_group groups parent list = slice_set groups (place parent) list
+
+-- the ids of the siblings in a parent, from bottom to top
+abbrev pub siblings : List (List (ℕ × ℤ)) → Option ℕ → List ℕ
+siblings groups parent = ids_of (group groups parent)
