@@ -1,82 +1,21 @@
 -- Scenes and records as they are captured.
-use Rattle.std.proofs.Common.{◌≡◌, ℕ, zero, suc, ◌+◌, ◌<◌, Bool, true, false, ◌&&◌, not, pos, List, [], ◌∷◌, ◌++◌, All, length, map, filter_map, get_or, drop, Option, Some, None, if◌then◌else◌, refl, sym, ap, ap₂, ◌∙◌, subst, append_assoc, arith}
-use Rattle.std.specs.List.{cons_option, list_any, list_all}
-use Rattle.std.specs.Option.{option_map, option_and_then, option_or, option_to_list}
-use Rattle.std.proofs.lemmas.Option.{none-some, same_Some}
-use Rattle.std.proofs.lemmas.List.{map-append}
+use Rattle.std.proofs.Common.{◌≡◌, ℕ, zero, suc, ◌+◌, ◌<◌, ◌≤◌, List, [], ◌∷◌, ◌++◌, All, length, filter_map, get_or, drop, Option, Some, None, refl, sym, ap, ◌∙◌, append_assoc, arith}
+use Rattle.std.specs.List.{cons_option}
+use Rattle.std.specs.Option.{option_map, option_to_list}
+use Rattle.std.proofs.lemmas.List.{map-append, drop_all}
 use Rattle.std.proofs.Math.Seq.{drop-cons}
-use Rattle.ev_geom.specs.Area.{Area, meet}
 use Rattle.ev_state.specs.Held.{Held}
-use Rattle.ev_model.specs.Chain.{chain}
 use Rattle.ev_model.specs.Limits.{IsObject, AreObjects}
-use Rattle.ev_model.specs.Stage.{Stage, values, canvas}
-use Rattle.ev_model.specs.Up.{next, over_it, is_smart, is_smart_content, is_clipped_by, clips, cut, is_drawn, clip, colour, is_shown}
-use Rattle.ev_model.specs.Look.{Look, has_pixels, look, looks}
-use Rattle.ev_model.specs.declared.content.Content.TheVariants as content
+use Rattle.ev_model.specs.Stage.{values}
 use Rattle.ev_model.specs.declared.object.Object.{Object}
 use Rattle.ev_scene.specs.Slots.{of_id, value_of}
 use Rattle.ev_scene.specs.Board.{values_of}
-use Rattle.ev_scene.specs.Whole.{IsPlain}
-use Rattle.ev_scene.specs.Captured.{look_on, plain_look}
 use Rattle.ev_scene.proofs.Places.{of_id_map}
-
-with_first : (o : Object) (objects : List Object) → IsPlain o → All IsPlain objects → All IsPlain (o ∷ objects)
-with_first o objects first rest zero d h = first
-with_first o objects first rest (suc k) d h = rest k d (omega (arith, h))
-
-others : (o : Object) (objects : List Object) → All IsPlain (o ∷ objects) → All IsPlain objects
-others o objects plain k d h = plain (suc k) d (omega (arith, h))
-
--- nothing stands over a plain object
-chain_none : {A : Type 0} (n : ℕ) (next : A → Option A) → chain n next None ≡ []
-chain_none zero next = refl
-chain_none (suc n) next = refl
-
-plain_way : (objects : List Object) (o : Object) → IsPlain o → over_it objects o ≡ []
-plain_way objects o plain =
-    let over : next objects o ≡ None = rw (plain.clipper, plain.parent) refl in
-    ap (chain (length objects) (next objects)) over ∙ chain_none (length objects) (next objects)
-
--- none of plain objects clips another
-clips_none : (id : ℕ) (objects : List Object) → All IsPlain objects → list_any (is_clipped_by id) objects ≡ false
-clips_none id [] plain = refl
-clips_none id (o ∷ objects) plain = rw (plain 0 o (omega arith)).clipper (clips_none id objects (others o objects plain))
-
-plain_smart : (o : Object) → IsPlain o → is_smart o ≡ false
-plain_smart o plain = ap is_smart_content plain.content
-
-plain_clip : (s : Stage) (o : Object) → IsPlain o → clip s o ≡ meet (canvas s) o.rect
-plain_clip s o plain = rw (plain_way s.objects o plain, plain_smart o plain) refl
-
-plain_colour : (s : Stage) (o : Object) → IsPlain o → colour s o ≡ o.color
-plain_colour s o plain = rw (plain_way s.objects o plain) refl
-
-plain_drawn : (s : Stage) (o : Object) → All IsPlain s.objects → IsPlain o → is_drawn s o ≡ o.shown
-plain_drawn s o all plain = rw (plain_way s.objects o plain, clips_none o.id s.objects all, plain_smart o plain) (last o.shown) where
-  last : (b : Bool) → (b && true) ≡ b
-  last true = refl
-  last false = refl
-
-look_is_plain : (s : Stage) (o : Object) → All IsPlain s.objects → IsPlain o → look s o ≡ plain_look s.w s.h o
-look_is_plain s o all plain = rw (plain_drawn s o all plain, plain_clip s o plain, plain_colour s o plain) refl
-
-pub looks_are_plain : (w h : ℕ) (objects rest : List Object) → All IsPlain objects → All IsPlain rest → filter_map (plain_look w h) rest ≡ filter_map (look (record { w = w; h = h; objects = objects })) rest
-looks_are_plain w h objects [] all plain = refl
-looks_are_plain w h objects (o ∷ rest) all plain =
-    ap₂ cons_option (sym (look_is_plain (record { w = w; h = h; objects = objects }) o all (plain 0 o (omega arith)))) (looks_are_plain w h objects rest all (others o rest plain))
 
 -- one more of what is there
 pub one_more : {A : Type 0} (so_far now rest all : List A) (x : Option A) → now ≡ so_far ++ option_to_list x → so_far ++ cons_option x rest ≡ all → now ++ rest ≡ all
 one_more so_far now rest all None e f = ap (λ xs. xs ++ rest) e ∙ append_assoc so_far [] rest ∙ f
 one_more so_far now rest all (Some x) e f = ap (λ xs. xs ++ rest) e ∙ append_assoc so_far (x ∷ []) rest ∙ f
-
--- all objects of a scene are plain
-pub plain_in_order : (objects : List (Option Object)) (ids : List ℕ) → ((id : ℕ) (o : Object) → of_id objects id ≡ Some o → IsPlain o) → All IsPlain (filter_map (of_id objects) ids)
-plain_in_order objects [] plain = λ k d h. absurd (omega (arith, h))
-plain_in_order objects (id ∷ ids) plain = go (of_id objects id) refl (plain_in_order objects ids plain) where
-  go : (x : Option Object) → of_id objects id ≡ x → All IsPlain (filter_map (of_id objects) ids) → All IsPlain (cons_option x (filter_map (of_id objects) ids))
-  go None e rest = rest
-  go (Some o) e rest = with_first o (filter_map (of_id objects) ids) (plain id o e) rest
 
 nothing_more : {A : Type 0} (xs : List A) → xs ++ [] ≡ xs
 nothing_more [] = refl
@@ -105,9 +44,36 @@ pub not_pushed : (states : List (Option (Held Object))) (objects : List (Held Ob
 not_pushed states objects id none =
     sym (nothing_more (values objects)) ∙ ap (λ x. values objects ++ option_to_list x) (sym (of_id_map value_of states id ∙ ap (option_map value_of) (sym none)))
 
-pub are_objects : (objects : List (Held Object)) → All IsPlain (values objects) → AreObjects objects
-are_objects [] plain = λ k d h. absurd (omega (arith, h))
-are_objects (s ∷ objects) plain = first (plain 0 s.value (omega arith)).limits (are_objects objects (others s.value (values objects) plain)) where
-  first : IsObject s.value → AreObjects objects → AreObjects (s ∷ objects)
-  first one rest zero d h = one
-  first one rest (suc k) d h = rest k d (omega (arith, h))
+-- what keeps its limits wherever it stands keeps them in a list
+pub limits_in_order : (objects : List (Option Object)) (ids : List ℕ) → ((id : ℕ) (o : Object) → of_id objects id ≡ Some o → IsObject o) → All IsObject (filter_map (of_id objects) ids)
+limits_in_order objects [] limits = λ k d h. absurd (omega (arith, h))
+limits_in_order objects (id ∷ ids) limits = go (of_id objects id) refl (limits_in_order objects ids limits) where
+  with_first : (o : Object) (rest : List Object) → IsObject o → All IsObject rest → All IsObject (o ∷ rest)
+  with_first o rest first others zero d h = first
+  with_first o rest first others (suc k) d h = others k d (omega (arith, h))
+
+  go : (x : Option Object) → of_id objects id ≡ x → All IsObject (filter_map (of_id objects) ids) → All IsObject (cons_option x (filter_map (of_id objects) ids))
+  go None e rest = rest
+  go (Some o) e rest = with_first o (filter_map (of_id objects) ids) (limits id o e) rest
+
+pub are_objects : (states : List (Held Object)) → All IsObject (values states) → AreObjects states
+are_objects [] limits = λ k d h. absurd (omega (arith, h))
+are_objects (s ∷ states) limits = go (limits 0 s.value (omega arith)) (are_objects states (λ k d h. limits (suc k) d (omega (arith, h)))) where
+  go : IsObject s.value → AreObjects states → AreObjects (s ∷ states)
+  go one rest zero d h = one
+  go one rest (suc k) d h = rest k d (omega (arith, h))
+
+-- one more object of a list of ids
+pub one_more_id : (objects : List (Option Object)) (ids : List ℕ) (i d : ℕ) (so_far now all : List Object) → i < length ids → now ≡ so_far ++ option_to_list (of_id objects (get_or ids i d))
+    → so_far ++ filter_map (of_id objects) (drop i ids) ≡ all → now ++ filter_map (of_id objects) (drop (i + 1) ids) ≡ all
+one_more_id objects ids i d so_far now all h e f =
+    let next : drop i ids ≡ get_or ids i d ∷ drop (suc i) ids = drop-cons ids i d h in
+    let k : i + 1 ≡ suc i = omega arith in
+    one_more so_far now (filter_map (of_id objects) (drop (i + 1) ids)) all (of_id objects (get_or ids i d)) e
+    (ap (λ k. so_far ++ cons_option (of_id objects (get_or ids i d)) (filter_map (of_id objects) (drop k ids))) k ∙ sym (ap (λ rest. so_far ++ filter_map (of_id objects) rest) next) ∙ f)
+
+-- all ids were taken
+pub all_ids : (objects : List (Option Object)) (items ids : List ℕ) (i : ℕ) (so_far : List Object) → items ≡ ids → length items ≤ i → so_far ++ filter_map (of_id objects) (drop i items) ≡ filter_map (of_id objects) items
+    → so_far ≡ filter_map (of_id objects) ids
+all_ids objects items ids i so_far e past f =
+    all_done so_far (filter_map (of_id objects) ids) (ap (λ rest. so_far ++ filter_map (of_id objects) rest) (sym (drop_all i items past)) ∙ f ∙ ap (filter_map (of_id objects)) e)

@@ -1,16 +1,17 @@
 -- What a look-up of a name answers.
-use Rattle.std.proofs.Common.{◌≡◌, ℕ, ◌+◌, ◌-◌, ◌<◌, ◌≤◌, cond, if◌then◌else◌, List, [], ◌∷◌, ◌++◌, length, Option, Some, None, is_some, IfSome, option_copied, Bor, refl, sym, ap, ◌∙◌, subst, arith}
+use Rattle.std.proofs.Common.{◌≡◌, ℕ, ◌+◌, ◌-◌, ◌<◌, ◌≤◌, true, false, cond, if◌then◌else◌, List, [], ◌∷◌, ◌++◌, length, Option, Some, None, is_some, IfSome, option_copied, Bor, refl, sym, ap, ◌∙◌, subst}
 use Rattle.std.specs.Option.{option_map}
 use Rattle.ev_state.specs.Held.{Held}
 use Rattle.ev_model.specs.declared.object.Object.{Object}
 use Rattle.std.specs.Map.{lookup}
 use Rattle.std.proofs.lemmas.List.{map-set}
+use Rattle.std.proofs.lemmas.Option.{none-some, same_Some}
 use Rattle.ev_scene.specs.Slots.{of_id, put, value_of}
 use Rattle.ev_scene.specs.Change.{apply}
 use Rattle.ev_scene.specs.declared.change.Change.{Change}
 use Rattle.ev_scene.specs.declared.change.Change.TheVariants as change
 use Rattle.ev_scene.specs.Board.{named, values_of}
-use Rattle.ev_scene.specs.Roll.{same_label, id_in, IsRoll}
+use Rattle.ev_scene.specs.Roll.{same_label, id_in, name_at, IsRoll, IsStateOf}
 use Rattle.ev_scene.specs.declared.label.Label.{Label}
 use Rattle.ev_scene.proofs.Places.{of_id_map, id_low, id_high}
 use Rattle.ev_scene.proofs.Naming.{NamedBy, named_by, unnamed, free_name, own_value, added, removed, changed}
@@ -23,6 +24,8 @@ apply_id (change.Appear on) o = refl
 apply_id (change.Paint color) o = refl
 apply_id (change.Treat op) o = refl
 apply_id (change.Lift layer) o = refl
+apply_id (change.Clip clipper) o = refl
+apply_id (change.Enter parent) o = refl
 
 apply_name : (c : Change) (o : Object) → (apply c o).name ≡ o.name
 apply_name (change.Place x y) o = refl
@@ -31,6 +34,8 @@ apply_name (change.Appear on) o = refl
 apply_name (change.Paint color) o = refl
 apply_name (change.Treat op) o = refl
 apply_name (change.Lift layer) o = refl
+apply_name (change.Clip clipper) o = refl
+apply_name (change.Enter parent) o = refl
 
 module _ (states : List (Option (Held Object))) (ids : List (Label × ℕ)) (seen : List (Option (Held Object))) (roll : IsRoll states ids) (is : states ≡ seen) where
   pub led_to : (name : List ℕ) (id : ℕ) → Some id ≡ id_in ids name → of_id (values_of seen) id ≡ named (values_of seen) name
@@ -94,3 +99,33 @@ module _ (states : List (Option (Held Object))) (ids : List (Label × ℕ)) (see
       let at : of_id (values_of states) id ≡ Some s.value = of_id_map value_of states id ∙ ap (option_map value_of) there in
       subst P is (map-set (λ slot. option_map value_of slot) states (id - 1) (Some (record { value = o; serial = serial }))
       ∙ ap (put (values_of states) id) (ap Some e ∙ sym (ap (option_map (apply c)) at)))
+
+  -- another state of the object of its id
+  pub replaced_at : (t : Held Object) → IsStateOf seen t → IsRoll (put states t.value.id (Some t)) ids
+  replaced_at t there = go (of_id states t.value.id) refl (ap (λ seen. name_at seen t.value.id) is ∙ there) where
+    go : (found : Option (Held Object)) → of_id states t.value.id ≡ found → option_map (λ s. s.value.name) found ≡ Some t.value.name → IsRoll (put states t.value.id (Some t)) ids
+    go None e f = absurd (none-some t.value.name f)
+    go (Some s) e f = changed states ids t.value.id s t roll e (sym (roll.own t.value.id s e)) (sym (same_Some _ _ f))
+
+  -- the name of an object leads to its id
+  pub leads_back : (id : ℕ) (o : Object) → of_id (values_of seen) id ≡ Some o → Some id ≡ id_in ids o.name
+  leads_back id o there =
+      let at : of_id (values_of states) id ≡ Some o = ap (λ seen. of_id (values_of seen) id) is ∙ there in
+      sym ((roll.leads o.name id).1 (named_there (of_id states id) (sym (of_id_map value_of states id) ∙ at)))
+    where
+      named_there : (s : Option (Held Object)) → option_map value_of s ≡ Some o → option_map (λ s. s.value.name) s ≡ Some o.name
+      named_there None e = absurd (none-some o e)
+      named_there (Some s) e = ap (λ o. Some o.name) (same_Some _ _ e)
+
+  -- an object that is there is removed
+  pub taken : (states' : List (Option (Held Object))) (id : ℕ) (o : Object) → of_id (values_of seen) id ≡ Some o → states' ≡ put seen id None → states' ≡ (if is_some (of_id seen id) then put seen id None else seen)
+  taken states' id o there e = e ∙ ap (λ b. if b then put seen id None else seen) (sym (is_there (of_id seen id) (sym (of_id_map value_of seen id) ∙ there))) where
+    is_there : (s : Option (Held Object)) → option_map value_of s ≡ Some o → is_some s ≡ true
+    is_there None e = absurd (none-some o e)
+    is_there (Some s) e = refl
+
+  pub not_taken : (id : ℕ) → None ≡ of_id (values_of seen) id → seen ≡ (if is_some (of_id seen id) then put seen id None else seen)
+  not_taken id none = ap (λ b. if b then put seen id None else seen) (sym (is_away (of_id seen id) (none ∙ of_id_map value_of seen id))) where
+    is_away : (s : Option (Held Object)) → None ≡ option_map value_of s → is_some s ≡ false
+    is_away None e = refl
+    is_away (Some s) e = absurd (none-some s.value (sym (sym e)))

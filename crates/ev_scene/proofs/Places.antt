@@ -1,11 +1,11 @@
 -- Lists with what stands for each id, or nothing.
-use Rattle.std.proofs.Common.{◌≡◌, ℕ, zero, suc, ◌+◌, ◌-◌, Bool, true, false, cond, ◌<◌, ◌≤◌, ◌==◌, if◌then◌else◌, List, [], ◌∷◌, ◌++◌, length, map, Option, Some, None, is_some, get_or, slice_set, refl, sym, ap, ◌∙◌, inl, inr, arith}
-use Rattle.std.specs.List.{slice_get, find, filter_map}
+use Rattle.std.proofs.Common.{◌≡◌, ℕ, zero, suc, ◌+◌, ◌-◌, Bool, true, false, cond, ◌<◌, ◌≤◌, ◌==◌, if◌then◌else◌, List, [], ◌∷◌, ◌++◌, length, map, Option, Some, None, is_some, get_or, slice_set, refl, sym, ap, ap₂, ◌∙◌, arith}
+use Rattle.std.specs.List.{slice_get, find}
 use Rattle.std.specs.Option.{option_and_then, option_map}
 use Rattle.std.proofs.lemmas.Option.{none-some, same_Some}
 use Rattle.std.proofs.lemmas.Bool.Decides.{nat_tests}
 use Rattle.std.proofs.Math.Bool.{true≢false}
-use Rattle.ev_scene.specs.Slots.{of_id, put, live, value_of}
+use Rattle.ev_scene.specs.Slots.{of_id, put, live}
 
 -- what stands at a place
 abbrev pub at_place : {A : Type 0} → List (Option A) → ℕ → Option A
@@ -120,6 +120,16 @@ of_id_end slots (suc j) y =
 pub of_id_map : {A B : Type 0} (f : A → B) (slots : List (Option A)) (id : ℕ) → of_id (map (λ slot. option_map f slot) slots) id ≡ option_map f (of_id slots id)
 of_id_map f slots zero = refl
 of_id_map f slots (suc j) = of_id_suc (map (λ slot. option_map f slot) slots) j ∙ at_map f slots j ∙ ap (option_map f) (sym (of_id_suc slots j))
+
+-- two lists of one length, with the same for each id, are the same
+same_places : {A : Type 0} (slots slots' : List (Option A)) → length slots ≡ length slots' → ((k : ℕ) → at_place slots k ≡ at_place slots' k) → slots ≡ slots'
+same_places [] [] n same = refl
+same_places [] (slot' ∷ slots') n same = absurd (omega (arith, n))
+same_places (slot ∷ slots) [] n same = absurd (omega (arith, n))
+same_places (slot ∷ slots) (slot' ∷ slots') n same = ap₂ ◌∷◌ (same 0) (same_places slots slots' (omega (arith, n)) (λ k. same (suc k)))
+
+pub same_slots : {A : Type 0} (slots slots' : List (Option A)) → length slots ≡ length slots' → ((id : ℕ) → of_id slots id ≡ of_id slots' id) → slots ≡ slots'
+same_slots slots slots' n same = same_places slots slots' n (λ k. sym (of_id_suc slots k) ∙ same (suc k) ∙ of_id_suc slots' k)
 
 -- what has an id stands in the list
 pub id_low : {A : Type 0} (slots : List (Option A)) (id : ℕ) (x : A) → of_id slots id ≡ Some x → 1 ≤ id

@@ -1,10 +1,10 @@
 -- The layers of an order that was changed.
-use Rattle.std.proofs.Common.{◌≡◌, ◌≢◌, ℕ, ℤ, Bool, true, false, List, [], ◌∷◌, Option, Some, None, is_some, Result, Ok, Err, OnOk, OnErr, if◌then◌else◌, ◌==◌, int_lt, refl, sym, ap, ◌∙◌, subst, inl, inr, arith}
+use Rattle.std.proofs.Common.{◌≡◌, ◌≢◌, ℕ, ℤ, Bool, true, false, List, [], ◌∷◌, Option, Some, None, is_some, Result, Ok, Err, OnOk, OnErr, if◌then◌else◌, ◌==◌, int_lt, refl, sym, ap, ◌∙◌, inl, inr, arith}
 use Rattle.std.specs.Ordering.{int_eq}
 use Rattle.std.specs.Cmp.{signed_Decides}
-use Rattle.std.proofs.lemmas.Option.{none-some, same_Some}
+use Rattle.std.proofs.lemmas.Option.{none-some}
 use Rattle.std.proofs.lemmas.Bool.Decides.{nat_tests, eqb_tells}
-use Rattle.ev_stack.specs.Order.{layer_in, IsApart, IsDistinct, without, put_top, put_bottom, put_above, put_below, to_top, to_bottom, to_above, to_below}
+use Rattle.ev_stack.specs.Order.{layer_in, IsApart, IsDistinct, without, put_top, put_bottom, put_above, put_below, to_top}
 use Rattle.std.specs.Result.{result_err}
 use Rattle.ev_stack.specs.declared.siblings.StackErr.{StackErr}
 use Rattle.ev_stack.specs.declared.siblings.StackErr.TheVariants.{Unknown, Itself, Layer}

@@ -1,25 +1,37 @@
--- What holds of each scene holds after each edit.
-use Rattle.std.proofs.Common.{◌≡◌, ◌≢◌, ℕ, ℤ, pos, neg_ℤ, ◌≤ℤ◌, ◌+◌, ◌≤◌, Bool, true, false, List, [], ◌∷◌, ◌++◌, length, Option, Some, None, if◌then◌else◌, ◌==◌, refl, sym, ap, ◌∙◌, subst, inl, inr, arith}
-use Rattle.std.specs.Option.{option_map}
+-- What holds of each scene holds after each edit of one object.
+use Rattle.std.proofs.Common.{◌≡◌, ◌≢◌, ℕ, zero, suc, ℤ, pos, neg_ℤ, ◌≤ℤ◌, ◌+◌, ◌-◌, ◌≤◌, ◌<◌, Bool, true, false, List, [], ◌∷◌, ◌++◌, length, get_or, slice_set, Option, Some, None, Ok, is_some, if◌then◌else◌, ◌==◌, refl, sym, ap, ap₂, ◌∙◌, subst, inl, inr, arith}
+use Rattle.std.specs.FinMap.{get, insert, empty, get-empty, get-insert}
+use Rattle.std.specs.Option.{option_map, option_and_then, option_eq}
+use Rattle.std.specs.Prelude.{nat_eq}
+use Rattle.std.proofs.Math.Bool.{true≢false}
 use Rattle.std.proofs.lemmas.Option.{none-some, same_Some}
 use Rattle.std.proofs.lemmas.Int.{ints}
 use Rattle.std.proofs.lemmas.Bool.Decides.{nat_tests, eqb_tells}
-use Rattle.std.proofs.lemmas.List.{length-map, map-append}
+use Rattle.std.proofs.lemmas.List.{length-map, map-append, length-append, length-set}
 use Rattle.ev_state.specs.Held.{Held}
 use Rattle.ev_model.specs.Limits.{IsObject}
-use Rattle.ev_model.specs.declared.content.Kind.TheVariants as kind
 use Rattle.ev_model.specs.declared.object.Object.{Object}
 use Rattle.ev_stack.specs.Order.{layer_in, put_top, without, IsApart, IsDistinct}
-use Rattle.ev_stack.specs.Calls.{relayered}
-use Rattle.ev_scene.proofs.Apart.{apart_absent}
+use Rattle.ev_stack.specs.Calls.{place_fault, raised, lowered, relayered, placed_above, placed_below}
+use Rattle.ev_groups.specs.Groups.{place, group, with_group}
+use Rattle.ev_model.specs.declared.content.Kind.{Kind}
+use Rattle.ev_model.specs.declared.content.Kind.TheVariants.{Rect, Image, Text, Smart}
+use Rattle.ev_links.specs.Ties.{Tie, Ties, alone, released, parent_at, clipper_at, IsSound}
 use Rattle.ev_scene.specs.Slots.{of_id, put, value_of}
 use Rattle.ev_scene.specs.Board.{values_of}
-use Rattle.ev_scene.specs.Change.{apply, fresh, is_layer, IsLook, IsFit}
-use Rattle.ev_scene.specs.Whole.{IsPlain, IsWhole}
+use Rattle.ev_scene.specs.Change.{apply, is_layer, is_plain, fresh, IsLook, IsFit}
+use Rattle.ev_scene.specs.Ties.{tie_of, layer_at}
+use Rattle.ev_scene.specs.Whole.{IsWhole}
 use Rattle.ev_scene.specs.declared.change.Change.{Change}
 use Rattle.ev_scene.specs.declared.change.Change.TheVariants as change
-use Rattle.ev_scene.proofs.Places.{of_id_put, of_id_end, some_choice, map_choice, past_end}
-use Rattle.ev_scene.proofs.Restacking.{layer_in-gone, layer_in-relayered, layer_in-pushed}
+use Rattle.ev_scene.proofs.Apart.{apart_absent}
+use Rattle.ev_scene.proofs.Restacking.{layer_in-raised, layer_in-lowered, layer_in-relayered, layer_in-placed_above, layer_in-placed_below, layer_in-gone, layer_in-pushed, still_beside}
+use Rattle.std.specs.Cmp.{nat_cmp_total}
+use Rattle.ev_links.specs.Calls.{with_clipper, with_parent, put_tie, Drops, known_fault}
+use Rattle.ev_links.specs.declared.refusal.LinkErr.{LinkErr}
+use Rattle.ev_links.specs.declared.refusal.LinkErr.TheVariants.{Unknown}
+use Rattle.ev_links.proofs.Views.{same_test}
+use Rattle.ev_scene.proofs.Places.{of_id_suc, of_id_put, of_id_end, some_choice, past_end}
 
 -- a look is in range
 pub look_fits : (c : Change) → IsLook c → IsFit c
@@ -29,23 +41,26 @@ look_fits (change.Appear on) look = look
 look_fits (change.Paint color) look = look
 look_fits (change.Treat op) look = look
 look_fits (change.Lift layer) look = absurd look
+look_fits (change.Clip clipper) look = absurd look
+look_fits (change.Enter parent) look = absurd look
 
--- a look leaves all but the look
-look_layer : (c : Change) (o : Object) → IsLook c → (apply c o).layer ≡ o.layer
-look_layer (change.Place x y) o look = refl
-look_layer (change.Side w h) o look = refl
-look_layer (change.Appear on) o look = refl
-look_layer (change.Paint color) o look = refl
-look_layer (change.Treat op) o look = refl
-look_layer (change.Lift layer) o look = absurd look
+-- a look leaves all that ties and places an object
+pub record IsSameStand (o o' : Object) : Type 0 where
+  pub id : o'.id ≡ o.id
+  pub layer : o'.layer ≡ o.layer
+  pub parent : o'.parent ≡ o.parent
+  pub tie : tie_of o' ≡ tie_of o
+  pub limits : IsObject o → IsObject o'
 
-look_plain : (c : Change) (o : Object) → IsLook c → IsPlain o → IsPlain (apply c o)
-look_plain (change.Place x y) o look plain = record { limits = record { layer_low = plain.limits.layer_low; layer_high = plain.limits.layer_high; content = plain.limits.content }; content = plain.content; clipper = plain.clipper; parent = plain.parent }
-look_plain (change.Side w h) o look plain = record { limits = record { layer_low = plain.limits.layer_low; layer_high = plain.limits.layer_high; content = plain.limits.content }; content = plain.content; clipper = plain.clipper; parent = plain.parent }
-look_plain (change.Appear on) o look plain = record { limits = record { layer_low = plain.limits.layer_low; layer_high = plain.limits.layer_high; content = plain.limits.content }; content = plain.content; clipper = plain.clipper; parent = plain.parent }
-look_plain (change.Paint color) o look plain = record { limits = record { layer_low = plain.limits.layer_low; layer_high = plain.limits.layer_high; content = plain.limits.content }; content = plain.content; clipper = plain.clipper; parent = plain.parent }
-look_plain (change.Treat op) o look plain = record { limits = record { layer_low = plain.limits.layer_low; layer_high = plain.limits.layer_high; content = plain.limits.content }; content = plain.content; clipper = plain.clipper; parent = plain.parent }
-look_plain (change.Lift layer) o look plain = absurd look
+pub look_stands : (c : Change) (o : Object) → IsLook c → IsSameStand o (apply c o)
+look_stands (change.Place x y) o look = record { id = refl; layer = refl; parent = refl; tie = refl; limits = λ l. record { layer_low = l.layer_low; layer_high = l.layer_high; content = l.content } }
+look_stands (change.Side w h) o look = record { id = refl; layer = refl; parent = refl; tie = refl; limits = λ l. record { layer_low = l.layer_low; layer_high = l.layer_high; content = l.content } }
+look_stands (change.Appear on) o look = record { id = refl; layer = refl; parent = refl; tie = refl; limits = λ l. record { layer_low = l.layer_low; layer_high = l.layer_high; content = l.content } }
+look_stands (change.Paint color) o look = record { id = refl; layer = refl; parent = refl; tie = refl; limits = λ l. record { layer_low = l.layer_low; layer_high = l.layer_high; content = l.content } }
+look_stands (change.Treat op) o look = record { id = refl; layer = refl; parent = refl; tie = refl; limits = λ l. record { layer_low = l.layer_low; layer_high = l.layer_high; content = l.content } }
+look_stands (change.Lift layer) o look = absurd look
+look_stands (change.Clip clipper) o look = absurd look
+look_stands (change.Enter parent) o look = absurd look
 
 layer_low : (layer : ℤ) → is_layer layer ≡ true → neg_ℤ (pos 32768) ≤ℤ layer
 layer_low layer h = grind (arith, ints)
@@ -53,111 +68,412 @@ layer_low layer h = grind (arith, ints)
 layer_high : (layer : ℤ) → is_layer layer ≡ true → layer ≤ℤ pos 32767
 layer_high layer h = grind (arith, ints)
 
-module _ (w h : ℕ) (objects : List (Option Object)) (order : List (ℕ × ℤ)) (whole : IsWhole w h objects order) where
+-- one entry of a list in place of another
+pub get_set : {A : Type 0} (xs : List A) (k j : ℕ) (x y : A) → k < length xs → get_or (slice_set xs k x) j y ≡ (if j == k then x else get_or xs j y)
+get_set [] k j x y low = absurd (omega (arith, low))
+get_set (one ∷ xs) zero zero x y low = refl
+get_set (one ∷ xs) zero (suc j) x y low = let e : (suc j == 0) ≡ false = grind (arith, nat_tests) in rw e refl
+get_set (one ∷ xs) (suc k) zero x y low = let e : (0 == suc k) ≡ false = grind (arith, nat_tests) in rw e refl
+get_set (one ∷ xs) (suc k) (suc j) x y low = let e : (suc j == suc k) ≡ (j == k) = grind (arith, nat_tests) in rw e (get_set xs k j x y (omega (arith, low)))
+
+-- the ties, once one of them was put
+get_put_tie : (ties : Ties) (id : ℕ) (tie : Tie) (q : ℕ) → get (put_tie ties id (Some tie)) q ≡ (if q == id then Some tie else get ties q)
+get_put_tie ties id tie q = get-insert nat_cmp_total ties id tie q ∙ ap (λ b. if b then Some tie else get ties q) (same_test q id)
+
+module _ (w h : ℕ) (objects : List (Option Object)) (groups : List (List (ℕ × ℤ))) (ties : Ties) (whole : IsWhole w h objects groups ties) where
   -- other sides
-  pub resized : (w' h' : ℕ) → 1 ≤ w' → w' ≤ 4096 → 1 ≤ h' → h' ≤ 4096 → IsWhole w' h' objects order
-  resized w' h' a b c d = record { w_low = a; w_high = b; h_low = c; h_high = d; stands = whole.stands; plain = whole.plain }
+  pub resized : (w' h' : ℕ) → 1 ≤ w' → w' ≤ 4096 → 1 ≤ h' → h' ≤ 4096 → IsWhole w' h' objects groups ties
+  resized w' h' a b c d = record { w_low = a; w_high = b; h_low = c; h_high = d; own = whole.own; limits = whole.limits; stands = whole.stands; grouped = whole.grouped; tied = whole.tied }
 
-  -- an order with the same layers
-  pub restacked : (order' : List (ℕ × ℤ)) → ((q : ℕ) → layer_in order' q ≡ layer_in order q) → IsWhole w h objects order'
-  restacked order' same = record { w_low = whole.w_low; w_high = whole.w_high; h_low = whole.h_low; h_high = whole.h_high; stands = λ q. same q ∙ whole.stands q; plain = whole.plain }
+  -- each object that is there stands in the group of its parent
+  pub stands_in : (id : ℕ) (o : Object) → of_id objects id ≡ Some o → layer_in (group groups o.parent) id ≡ Some o.layer
+  stands_in id o there =
+      let same : (place o.parent == place o.parent) ≡ true = grind (arith, nat_tests) in
+      whole.stands (place o.parent) id ∙ ap (option_and_then (layer_at (place o.parent))) there ∙ ap (λ b. if b then Some o.layer else None) same
 
-  -- another object in place of one
-  module _ (id : ℕ) (o o' : Object) (there : of_id objects id ≡ Some o) (plain' : IsPlain o') where
-    replaced_plain : (q : ℕ) (t : Object) → of_id (put objects id (Some o')) q ≡ Some t → IsPlain t
-    replaced_plain q t at_q = some_choice (q == id) (Some o') (of_id objects q) t _ (sym (of_id_put objects id q o (Some o') there) ∙ at_q)
-        (λ e f. subst (λ t. IsPlain t) (same_Some _ _ f) plain') (λ e f. whole.plain q t f)
-
-    layers_put : (q : ℕ) → option_map (λ o. o.layer) (of_id (put objects id (Some o')) q) ≡ (if q == id then Some o'.layer else layer_in order q)
-    layers_put q = ap (option_map (λ o. o.layer)) (of_id_put objects id q o (Some o') there) ∙ map_choice (λ o. o.layer) (q == id) (Some o') (of_id objects q)
-        ∙ ap (λ layer. if q == id then Some o'.layer else layer) (sym (whole.stands q))
-
-    pub relaid : (order' : List (ℕ × ℤ)) → ((q : ℕ) → layer_in order' q ≡ (if q == id then Some o'.layer else layer_in order q)) → IsWhole w h (put objects id (Some o')) order'
-    relaid order' layers = record { w_low = whole.w_low; w_high = whole.w_high; h_low = whole.h_low; h_high = whole.h_high; stands = λ q. layers q ∙ sym (layers_put q); plain = replaced_plain }
-
-  pub looked : (id : ℕ) (o : Object) (c : Change) → of_id objects id ≡ Some o → IsLook c → IsWhole w h (put objects id (Some (apply c o))) order
-  looked id o c there look = relaid id o (apply c o) there (look_plain c o look (whole.plain id o there)) order (λ q. own q) where
-    own : (q : ℕ) → layer_in order q ≡ (if q == id then Some (apply c o).layer else layer_in order q)
-    own q = elim (eqb_tells q id) [
-      | inl same ↦ rw same.0 (ap (layer_in order) same.1 ∙ whole.stands id ∙ ap (option_map (λ o. o.layer)) there ∙ ap Some (sym (look_layer c o look)))
-      | inr differ ↦ rw differ.0 refl
-    ]
-
-  pub lifted : (id : ℕ) (o : Object) (layer : ℤ) → of_id objects id ≡ Some o → is_layer layer ≡ true → IsDistinct order → IsWhole w h (put objects id (Some (apply (change.Lift layer) o))) (relayered order id layer)
-  lifted id o layer there fits distinct =
-      let plain : IsPlain o = whole.plain id o there in
-      let plain' : IsPlain (apply (change.Lift layer) o) = record { limits = record { layer_low = layer_low layer fits; layer_high = layer_high layer fits; content = plain.limits.content }; content = plain.content; clipper = plain.clipper; parent = plain.parent } in
-      relaid id o (apply (change.Lift layer) o) there plain' (relayered order id layer)
-      (layer_in-relayered order id o.layer (whole.stands id ∙ ap (option_map (λ o. o.layer)) there) distinct layer)
-
-  pub deleted : (id : ℕ) (o : Object) → of_id objects id ≡ Some o → IsDistinct order → IsWhole w h (put objects id None) (without order id)
-  deleted id o there distinct = record {
+  -- groups with the same layers
+  pub regrouped : (groups' : List (List (ℕ × ℤ))) → length groups' ≡ length groups → ((at q : ℕ) → layer_in (get_or groups' at []) q ≡ layer_in (get_or groups at []) q) → IsWhole w h objects groups' ties
+  regrouped groups' size same = record {
     w_low = whole.w_low;
     w_high = whole.w_high;
     h_low = whole.h_low;
     h_high = whole.h_high;
-    stands = λ q. layer_in-gone order id q distinct ∙ ap (λ layer. if q == id then None else layer) (whole.stands q)
-        ∙ sym (ap (option_map (λ o. o.layer)) (of_id_put objects id q o None there) ∙ map_choice (λ o. o.layer) (q == id) None (of_id objects q));
-    plain = λ q t at_q. some_choice (q == id) None (of_id objects q) t _ (sym (of_id_put objects id q o None there) ∙ at_q) (λ e f. absurd (none-some t f)) (λ e f. whole.plain q t f);
+    own = whole.own;
+    limits = whole.limits;
+    stands = λ at q. same at q ∙ whole.stands at q;
+    grouped = size ∙ whole.grouped;
+    tied = whole.tied;
   }
 
-  -- no object has the next id
-  pub next_free : layer_in order (length objects + 1) ≡ None
-  next_free = whole.stands (length objects + 1) ∙ ap (option_map (λ o. o.layer)) (past_end objects)
+  -- the group at one place with the same layers
+  pub restacked : (parent : Option ℕ) (group' : List (ℕ × ℤ)) → place parent < length groups → ((q : ℕ) → layer_in group' q ≡ layer_in (group groups parent) q) → IsWhole w h objects (with_group groups parent group') ties
+  restacked parent group' known same = regrouped (with_group groups parent group') (length-set groups (place parent) group') (λ at q. go at q) where
+    go : (at q : ℕ) → layer_in (get_or (with_group groups parent group') at []) q ≡ layer_in (get_or groups at []) q
+    go at q = ap (λ g. layer_in g q) (get_set groups (place parent) at group' [] known) ∙ elim (eqb_tells at (place parent)) [
+      | inl here ↦ rw here.0 (same q ∙ ap (λ at. layer_in (get_or groups at []) q) (sym here.1))
+      | inr away ↦ rw away.0 refl
+    ]
 
-  pub made : (name : List ℕ) → IsApart (length objects + 1) order → IsWhole w h (objects ++ Some (fresh (length objects + 1) name kind.Rect) ∷ []) (put_top order (length objects + 1) (pos 0))
-  made name apart =
-      let new : Object = fresh (length objects + 1) name kind.Rect in
-      record {
+  -- another object in place of one
+  module _ (id : ℕ) (o o' : Object) (there : of_id objects id ≡ Some o) (own' : o'.id ≡ id) (limits' : IsObject o') where
+    replaced_fact : (P : ℕ → Object → Type 0) → P id o' → ((q : ℕ) (t : Object) → of_id objects q ≡ Some t → P q t) → (q : ℕ) (t : Object) → of_id (put objects id (Some o')) q ≡ Some t → P q t
+    replaced_fact P new old q t at_q = some_choice (q == id) (Some o') (of_id objects q) t (P q t) (sym (of_id_put objects id q o (Some o') there) ∙ at_q)
+        (λ e f. let same : q ≡ id = grind (arith, nat_tests, e) in subst (λ q. P q t) (sym same) (subst (λ t. P id t) (same_Some _ _ f) new)) (λ e f. old q t f)
+
+    mapped : {B : Type 0} (f : Object → Option B) (q : ℕ) → option_and_then f (of_id (put objects id (Some o')) q) ≡ (if q == id then f o' else option_and_then f (of_id objects q))
+    mapped f q = ap (option_and_then f) (of_id_put objects id q o (Some o') there) ∙ choice (q == id) where
+      choice : (b : Bool) → option_and_then f (if b then Some o' else of_id objects q) ≡ (if b then f o' else option_and_then f (of_id objects q))
+      choice true = refl
+      choice false = refl
+
+    tied_map : (f : Object → Tie) (q : ℕ) → option_map f (of_id (put objects id (Some o')) q) ≡ (if q == id then Some (f o') else option_map f (of_id objects q))
+    tied_map f q = ap (option_map f) (of_id_put objects id q o (Some o') there) ∙ choice (q == id) where
+      choice : (b : Bool) → option_map f (if b then Some o' else of_id objects q) ≡ (if b then Some (f o') else option_map f (of_id objects q))
+      choice true = refl
+      choice false = refl
+
+    pub replaced : (groups' : List (List (ℕ × ℤ))) (ties' : Ties) → length groups' ≡ length groups
+        → ((at q : ℕ) → layer_in (get_or groups' at []) q ≡ (if q == id then layer_at at o' else layer_in (get_or groups at []) q))
+        → ((q : ℕ) → get ties' q ≡ (if q == id then Some (tie_of o') else get ties q))
+        → IsWhole w h (put objects id (Some o')) groups' ties'
+    replaced groups' ties' size layers tied' = record {
+      w_low = whole.w_low;
+      w_high = whole.w_high;
+      h_low = whole.h_low;
+      h_high = whole.h_high;
+      own = replaced_fact (λ q t. t.id ≡ q) own' whole.own;
+      limits = replaced_fact (λ q t. IsObject t) limits' whole.limits;
+      stands = λ at q. layers at q ∙ ap (λ layer. if q == id then layer_at at o' else layer) (whole.stands at q) ∙ sym (mapped (layer_at at) q);
+      grouped = size ∙ whole.grouped ∙ ap (λ n. n + 1) (sym (length-set objects (id - 1) (Some o')));
+      tied = λ q. tied' q ∙ ap (λ tie. if q == id then Some (tie_of o') else tie) (whole.tied q) ∙ sym (tied_map tie_of q);
+    }
+
+    -- where the layer and the parent stay, so do the groups
+    pub same_layers : o'.layer ≡ o.layer → o'.parent ≡ o.parent → (at q : ℕ) → layer_in (get_or groups at []) q ≡ (if q == id then layer_at at o' else layer_in (get_or groups at []) q)
+    same_layers layer parent at q = elim (eqb_tells q id) [
+      | inl same ↦ rw same.0 (ap (layer_in (get_or groups at [])) same.1 ∙ whole.stands at id ∙ ap (option_and_then (layer_at at)) there ∙ sym (ap₂ (λ p l. if place p == at then Some l else None) parent layer))
+      | inr differ ↦ rw differ.0 refl
+    ]
+
+    -- where the ties of the object stay, so do all
+    pub same_ties : tie_of o' ≡ tie_of o → (q : ℕ) → get ties q ≡ (if q == id then Some (tie_of o') else get ties q)
+    same_ties tie q = elim (eqb_tells q id) [
+      | inl same ↦ rw same.0 (ap (get ties) same.1 ∙ whole.tied id ∙ ap (option_map tie_of) there ∙ ap Some (sym tie))
+      | inr differ ↦ rw differ.0 refl
+    ]
+
+  -- an object with another look
+  pub looked : (id : ℕ) (o : Object) (c : Change) (objects' : List (Option Object)) → of_id objects id ≡ Some o → IsLook c → objects' ≡ put objects id (option_map (apply c) (of_id objects id)) → IsWhole w h objects' groups ties
+  looked id o c objects' there look e =
+      let stand : IsSameStand o (apply c o) = look_stands c o look in
+      let own' : (apply c o).id ≡ id = stand.id ∙ whole.own id o there in
+      let limits' : IsObject (apply c o) = stand.limits (whole.limits id o there) in
+      let P : List (Option Object) → Type 0 = λ objects. IsWhole w h objects groups ties in
+      subst P (sym (e ∙ ap (λ slot. put objects id (option_map (apply c) slot)) there))
+      (replaced id o (apply c o) there own' limits' groups ties refl (same_layers id o (apply c o) there own' limits' stand.layer stand.parent) (same_ties id o (apply c o) there own' limits' stand.tie))
+
+  -- the group of an object that is there has a place
+  pub has_group : (id : ℕ) (o : Object) → of_id objects id ≡ Some o → place o.parent < length groups
+  has_group id o there = low (place o.parent) (length groups) groups refl (stands_in id o there) where
+    low : (k n : ℕ) (xs : List (List (ℕ × ℤ))) → length xs ≡ n → layer_in (get_or xs k []) id ≡ Some o.layer → k < n
+    low k n [] e f = absurd (none-some o.layer f)
+    low zero n (x ∷ xs) e f = omega (arith, e)
+    low (suc k) n (x ∷ xs) e f = let later : k < length xs = low k (length xs) xs refl f in omega (arith, e, later)
+
+  -- an object on top or at the bottom of its layer
+  pub raised_to : (id : ℕ) (o : Object) (up : Bool) (groups' : List (List (ℕ × ℤ))) → of_id objects id ≡ Some o → IsDistinct (group groups o.parent)
+      → groups' ≡ with_group groups o.parent ((if up then raised else lowered) (group groups o.parent) id) → IsWhole w h objects groups' ties
+  raised_to id o up groups' there distinct e = subst (λ groups. IsWhole w h objects groups ties) (sym e) (restacked o.parent ((if up then raised else lowered) (group groups o.parent) id) (has_group id o there) (λ q. go up q)) where
+    go : (up : Bool) (q : ℕ) → layer_in ((if up then raised else lowered) (group groups o.parent) id) q ≡ layer_in (group groups o.parent) q
+    go true q = layer_in-raised (group groups o.parent) id o.layer (stands_in id o there) distinct q
+    go false q = layer_in-lowered (group groups o.parent) id o.layer (stands_in id o there) distinct q
+
+  -- an object beside another one
+  pub placed_to : (id : ℕ) (o : Object) (other : ℕ) (above : Bool) (groups' : List (List (ℕ × ℤ))) → of_id objects id ≡ Some o → IsDistinct (group groups o.parent) → None ≡ place_fault (group groups o.parent) id other
+      → groups' ≡ with_group groups o.parent ((if above then placed_above else placed_below) (group groups o.parent) id other) → IsWhole w h objects groups' ties
+  placed_to id o other above groups' there distinct fault e =
+      subst (λ groups. IsWhole w h objects groups ties) (sym e) (restacked o.parent ((if above then placed_above else placed_below) (group groups o.parent) id other) (has_group id o there)
+      (λ q. still_beside {T = ℕ} (group groups o.parent) ((if above then placed_above else placed_below) (group groups o.parent) id other) ((if above then placed_above else placed_below) (group groups o.parent) id other) id other (Ok 0) fault refl tt
+      (λ layer beside own near apart q. go above layer beside own near apart q) q))
+    where
+      go : (above : Bool) (layer beside : ℤ) → layer_in (group groups o.parent) id ≡ Some layer → layer_in (group groups o.parent) other ≡ Some beside → other ≢ id → (q : ℕ)
+          → layer_in ((if above then placed_above else placed_below) (group groups o.parent) id other) q ≡ layer_in (group groups o.parent) q
+      go true layer beside own near apart q = layer_in-placed_above (group groups o.parent) id layer own distinct other beside near apart q
+      go false layer beside own near apart q = layer_in-placed_below (group groups o.parent) id layer own distinct other beside near apart q
+
+  -- an object in another layer of its parent
+  pub lifted : (id : ℕ) (o : Object) (layer : ℤ) (objects' : List (Option Object)) (groups' : List (List (ℕ × ℤ))) → of_id objects id ≡ Some o → is_layer layer ≡ true → IsDistinct (group groups o.parent)
+      → objects' ≡ put objects id (option_map (apply (change.Lift layer)) (of_id objects id)) → groups' ≡ with_group groups o.parent (relayered (group groups o.parent) id layer) → IsWhole w h objects' groups' ties
+  lifted id o layer objects' groups' there fits distinct e f =
+      let old : IsObject o = whole.limits id o there in
+      let new : Object = apply (change.Lift layer) o in
+      let limits' : IsObject new = record { layer_low = layer_low layer fits; layer_high = layer_high layer fits; content = old.content } in
+      let P : List (Option Object) → List (List (ℕ × ℤ)) → Type 0 = λ objects groups. IsWhole w h objects groups ties in
+      subst (λ groups. P objects' groups) (sym f) (subst (λ objects. P objects (with_group groups o.parent (relayered (group groups o.parent) id layer))) (sym (e ∙ ap (λ slot. put objects id (option_map (apply (change.Lift layer)) slot)) there))
+      (replaced id o new there (whole.own id o there) limits' (with_group groups o.parent (relayered (group groups o.parent) id layer)) ties (length-set groups (place o.parent) (relayered (group groups o.parent) id layer))
+      (λ at q. layers at q) (same_ties id o new there (whole.own id o there) limits' refl)))
+    where
+      layers : (at q : ℕ) → layer_in (get_or (with_group groups o.parent (relayered (group groups o.parent) id layer)) at []) q ≡ (if q == id then layer_at at (apply (change.Lift layer) o) else layer_in (get_or groups at []) q)
+      layers at q = ap (λ g. layer_in g q) (get_set groups (place o.parent) at (relayered (group groups o.parent) id layer) [] (has_group id o there)) ∙ elim (eqb_tells at (place o.parent)) [
+        | inl here ↦ rw here.0 (layer_in-relayered (group groups o.parent) id o.layer (stands_in id o there) distinct layer q
+            ∙ ap₂ (λ mine other. if q == id then mine else other) (own_layer at here.1) (ap (λ at. layer_in (get_or groups at []) q) (sym here.1)))
+        | inr away ↦ rw away.0 (elim (eqb_tells q id) [
+          | inl same ↦ rw same.0 (ap (layer_in (get_or groups at [])) same.1 ∙ whole.stands at id ∙ ap (option_and_then (layer_at at)) there ∙ elsewhere at away.1)
+          | inr differ ↦ rw differ.0 refl
+        ])
+      ] where
+        own_layer : (at : ℕ) → at ≡ place o.parent → Some layer ≡ layer_at at (apply (change.Lift layer) o)
+        own_layer at here = let same : (place o.parent == at) ≡ true = grind (arith, nat_tests, here) in ap (λ b. if b then Some layer else None) (sym same)
+
+        elsewhere : (at : ℕ) → at ≢ place o.parent → layer_at at o ≡ layer_at at (apply (change.Lift layer) o)
+        elsewhere at away = let differ : (place o.parent == at) ≡ false = grind (arith, nat_tests, away) in rw differ refl
+
+  -- an object with another clipper
+  pub clipped : (id : ℕ) (o : Object) (clipper : Option ℕ) (objects' : List (Option Object)) (ties' : Ties) → of_id objects id ≡ Some o
+      → objects' ≡ put objects id (option_map (apply (change.Clip clipper)) (of_id objects id)) → ties' ≡ with_clipper ties id clipper → IsWhole w h objects' groups ties'
+  clipped id o clipper objects' ties' there e f =
+      let old : IsObject o = whole.limits id o there in
+      let new : Object = apply (change.Clip clipper) o in
+      let limits' : IsObject new = record { layer_low = old.layer_low; layer_high = old.layer_high; content = old.content } in
+      let P : List (Option Object) → Ties → Type 0 = λ objects ties. IsWhole w h objects groups ties in
+      subst (λ ties. P objects' ties) (sym f) (subst (λ objects. P objects (with_clipper ties id clipper)) (sym (e ∙ ap (λ slot. put objects id (option_map (apply (change.Clip clipper)) slot)) there))
+      (replaced id o new there (whole.own id o there) limits' groups (with_clipper ties id clipper) refl (same_layers id o new there (whole.own id o there) limits' refl refl)
+      (λ q. tied q)))
+    where
+      tied : (q : ℕ) → get (with_clipper ties id clipper) q ≡ (if q == id then Some (tie_of (apply (change.Clip clipper) o)) else get ties q)
+      tied q = ap (λ tie. get (put_tie ties id (option_map (λ (tie : Tie). record tie { clipper = clipper }) tie)) q) (whole.tied id ∙ ap (option_map tie_of) there)
+          ∙ get_put_tie ties id (tie_of (apply (change.Clip clipper) o)) q
+
+  -- an object that goes from one parent to another: its group and its ties change
+  pub entered : (id : ℕ) (o : Object) (to : Option ℕ) (objects' : List (Option Object)) (groups' : List (List (ℕ × ℤ))) (ties' : Ties) → of_id objects id ≡ Some o → place to < length groups → place o.parent ≢ place to
+      → IsDistinct (group groups o.parent) → IsApart id (group groups to)
+      → objects' ≡ put objects id (option_map (apply (change.Enter to)) (of_id objects id))
+      → groups' ≡ with_group (with_group groups to (put_top (group groups to) id o.layer)) o.parent (without (group groups o.parent) id)
+      → ties' ≡ with_parent ties id to → IsWhole w h objects' groups' ties'
+  entered id o to objects' groups' ties' there known other distinct apart e f g =
+      let old : IsObject o = whole.limits id o there in
+      let new : Object = apply (change.Enter to) o in
+      let limits' : IsObject new = record { layer_low = old.layer_low; layer_high = old.layer_high; content = old.content } in
+      let mid : List (List (ℕ × ℤ)) = with_group groups to (put_top (group groups to) id o.layer) in
+      let after : List (List (ℕ × ℤ)) = with_group mid o.parent (without (group groups o.parent) id) in
+      let P : List (Option Object) → List (List (ℕ × ℤ)) → Ties → Type 0 = λ objects groups ties. IsWhole w h objects groups ties in
+      subst (λ ties. P objects' groups' ties) (sym g) (subst (λ groups. P objects' groups (with_parent ties id to)) (sym f)
+      (subst (λ objects. P objects after (with_parent ties id to)) (sym (e ∙ ap (λ slot. put objects id (option_map (apply (change.Enter to)) slot)) there))
+      (replaced id o new there (whole.own id o there) limits' after (with_parent ties id to)
+      (length-set mid (place o.parent) (without (group groups o.parent) id) ∙ length-set groups (place to) (put_top (group groups to) id o.layer))
+      (λ at q. layers at q) (λ q. tied q))))
+    where
+      tied : (q : ℕ) → get (with_parent ties id to) q ≡ (if q == id then Some (tie_of (apply (change.Enter to) o)) else get ties q)
+      tied q = ap (λ tie. get (put_tie ties id (option_map (λ (tie : Tie). record tie { parent = to }) tie)) q) (whole.tied id ∙ ap (option_map tie_of) there)
+          ∙ get_put_tie ties id (tie_of (apply (change.Enter to) o)) q
+
+      from : (at q : ℕ) → at ≡ place o.parent → layer_in (without (group groups o.parent) id) q ≡ (if q == id then layer_at at (apply (change.Enter to) o) else layer_in (get_or groups at []) q)
+      from at q here =
+          let away : (place to == at) ≡ false = grind (arith, nat_tests, here, other) in
+          layer_in-gone (group groups o.parent) id q distinct ∙ ap₂ (λ mine other. if q == id then mine else other) (ap (λ b. if b then Some o.layer else None) (sym away)) (ap (λ at. layer_in (get_or groups at []) q) (sym here))
+
+      into : (at q : ℕ) → at ≡ place to → layer_in (put_top (group groups to) id o.layer) q ≡ (if q == id then layer_at at (apply (change.Enter to) o) else layer_in (get_or groups at []) q)
+      into at q here =
+          let same : (place to == at) ≡ true = grind (arith, nat_tests, here) in
+          layer_in-pushed (group groups to) id o.layer q apart ∙ ap₂ (λ mine other. if q == id then mine else other) (ap (λ b. if b then Some o.layer else None) (sym same)) (ap (λ at. layer_in (get_or groups at []) q) (sym here))
+
+      elsewhere : (at q : ℕ) → at ≢ place o.parent → at ≢ place to → layer_in (get_or groups at []) q ≡ (if q == id then layer_at at (apply (change.Enter to) o) else layer_in (get_or groups at []) q)
+      elsewhere at q far near = elim (eqb_tells q id) [
+        | inl same ↦
+            let gone : (place o.parent == at) ≡ false = grind (arith, nat_tests, far) in
+            let away : (place to == at) ≡ false = grind (arith, nat_tests, near) in
+            rw (same.0, away) (ap (layer_in (get_or groups at [])) same.1 ∙ whole.stands at id ∙ ap (option_and_then (layer_at at)) there ∙ ap (λ b. if b then Some o.layer else None) gone)
+        | inr differ ↦ rw differ.0 refl
+      ]
+
+      layers : (at q : ℕ) → layer_in (get_or (with_group (with_group groups to (put_top (group groups to) id o.layer)) o.parent (without (group groups o.parent) id)) at []) q
+          ≡ (if q == id then layer_at at (apply (change.Enter to) o) else layer_in (get_or groups at []) q)
+      layers at q =
+          let low : place o.parent < length (with_group groups to (put_top (group groups to) id o.layer)) = let e : length (with_group groups to (put_top (group groups to) id o.layer)) ≡ length groups = length-set groups (place to) (put_top (group groups to) id o.layer) in let k : place o.parent < length groups = has_group id o there in omega (arith, e, k) in
+          ap (λ g. layer_in g q) (get_set (with_group groups to (put_top (group groups to) id o.layer)) (place o.parent) at (without (group groups o.parent) id) [] low) ∙ elim (eqb_tells at (place o.parent)) [
+            | inl here ↦ rw here.0 (from at q here.1)
+            | inr far ↦ rw far.0 (ap (λ g. layer_in g q) (get_set groups (place to) at (put_top (group groups to) id o.layer) [] known) ∙ elim (eqb_tells at (place to)) [
+              | inl here ↦ rw here.0 (into at q here.1)
+              | inr near ↦ rw near.0 (elsewhere at q far.1 near.1)
+            ])
+          ]
+
+  -- nothing has the next id yet
+  pub next_untied : get ties (length objects + 1) ≡ None
+  next_untied = whole.tied (length objects + 1) ∙ ap (option_map tie_of) (past_end objects)
+
+  pub next_absent : (at : ℕ) → layer_in (get_or groups at []) (length objects + 1) ≡ None
+  next_absent at = whole.stands at (length objects + 1) ∙ ap (option_and_then (layer_at at)) (past_end objects)
+
+  module _ (sound : IsSound (get ties)) where
+    -- nobody stands in what has no tie, and nobody is clipped by it
+    parentless : (id other : ℕ) → get ties id ≡ None → parent_at (get ties) other ≢ Some id
+    parentless id other none e = none-some Smart (sym (ap (option_and_then (λ tie. Some tie.kind)) none) ∙ sound.parents other id e)
+
+    unclipped : (id other : ℕ) → get ties id ≡ None → clipper_at (get ties) other ≢ Some id
+    unclipped id other none e = none-some Rect (sym (ap (option_and_then (λ tie. Some tie.kind)) none) ∙ sound.clippers other id e)
+
+    -- the same, once a tie was added for it
+    pub memberless : (id : ℕ) (kind : Kind) (ties' : Ties) → id ≡ length objects + 1 → ties' ≡ insert ties id (alone kind) → (other : ℕ) → parent_at (get ties') other ≢ Some id
+    memberless id kind ties' next e other f =
+        let none : get ties id ≡ None = ap (get ties) next ∙ next_untied in
+        let now : get ties' other ≡ (if other == id then Some (alone kind) else get ties other) = ap (λ ties. get ties other) e ∙ get_put_tie ties id (alone kind) other in
+        go (other == id) now
+      where
+        go : (b : Bool) → get ties' other ≡ (if b then Some (alone kind) else get ties other) → ⊥
+        go true now = none-some id (sym (ap (option_and_then (λ tie. tie.parent)) now) ∙ f)
+        go false now = parentless id other (ap (get ties) next ∙ next_untied) (sym (ap (option_and_then (λ tie. tie.parent)) now) ∙ f)
+
+    -- a tie that was added and dropped again
+    pub undone : (id : ℕ) (kind : Kind) (ties' ties'' : Ties) → id ≡ length objects + 1 → ties' ≡ insert ties id (alone kind) → Drops ties' id ties'' → IsWhole w h objects groups ties''
+    undone id kind ties' ties'' next e drops = record {
+      w_low = whole.w_low;
+      w_high = whole.w_high;
+      h_low = whole.h_low;
+      h_high = whole.h_high;
+      own = whole.own;
+      limits = whole.limits;
+      stands = whole.stands;
+      grouped = whole.grouped;
+      tied = λ q. back q ∙ whole.tied q;
+    } where
+      none : get ties id ≡ None
+      none = ap (get ties) next ∙ next_untied
+
+      kept : (q : ℕ) (tie : Option Tie) → get ties q ≡ tie → option_map (released id) tie ≡ tie
+      kept q None f = refl
+      kept q (Some tie) f = go (option_eq nat_eq tie.clipper (Some id)) refl where
+        go : (b : Bool) → option_eq nat_eq tie.clipper (Some id) ≡ b → Some (if b then record tie { clipper = None } else tie) ≡ Some tie
+        go false g = refl
+        go true g = absurd (unclipped id q none (ap (option_and_then (λ tie. tie.clipper)) f ∙ same_option tie.clipper g)) where
+          same_option : (c : Option ℕ) → option_eq nat_eq c (Some id) ≡ true → c ≡ Some id
+          same_option None g = absurd (true≢false (sym g))
+          same_option (Some c) g = ap Some (nat_eq_is c g) where
+            nat_eq_is : (c : ℕ) → nat_eq c id ≡ true → c ≡ id
+            nat_eq_is c g = grind (arith, nat_tests)
+
+      back : (q : ℕ) → get ties'' q ≡ get ties q
+      back q = drops q ∙ elim (eqb_tells q id) [
+        | inl same ↦ rw same.0 (sym (ap (get ties) same.1 ∙ none))
+        | inr differ ↦ rw differ.0 (ap (option_map (released id)) (ap (λ ties. get ties q) e ∙ get_put_tie ties id (alone kind) q ∙ ap (λ b. if b then Some (alone kind) else get ties q) differ.0) ∙ kept q (get ties q) refl)
+      ]
+
+  -- a new object on top of those that stand in no other one
+  pub made : (id : ℕ) (o : Object) (objects' : List (Option Object)) (groups' : List (List (ℕ × ℤ))) (ties' : Ties) → id ≡ length objects + 1 → o.id ≡ id → o.parent ≡ None → o.layer ≡ pos 0 → IsObject o
+      → objects' ≡ objects ++ Some o ∷ [] → groups' ≡ with_group groups None (put_top (group groups None) id (pos 0)) ++ [] ∷ [] → ties' ≡ insert ties id (tie_of o) → IsWhole w h objects' groups' ties'
+  made id o objects' groups' ties' next own free low limits e f g =
+      subst (λ objects. IsWhole w h objects groups' ties') (sym e) (record {
         w_low = whole.w_low;
         w_high = whole.w_high;
         h_low = whole.h_low;
         h_high = whole.h_high;
-        stands = λ q. layer_in-pushed order (length objects + 1) (pos 0) q apart ∙ ap (λ layer. if q == length objects + 1 then Some (pos 0) else layer) (whole.stands q)
-            ∙ sym (ap (option_map (λ o. o.layer)) (of_id_end objects q (Some new)) ∙ map_choice (λ o. o.layer) (q == length objects + 1) (Some new) (of_id objects q));
-        plain = λ q t at_q. some_choice (q == length objects + 1) (Some new) (of_id objects q) t _ (sym (of_id_end objects q (Some new)) ∙ at_q)
-            (λ e f. subst (λ t. IsPlain t) (same_Some _ _ f) (new_plain (length objects + 1) name)) (λ e f. whole.plain q t f);
-      } where
-        new_plain : (id : ℕ) (name : List ℕ) → IsPlain (fresh id name kind.Rect)
-        new_plain id name = record { limits = record { layer_low = omega (arith, ints); layer_high = omega (arith, ints); content = tt }; content = refl; clipper = refl; parent = refl }
+        own = new_fact (λ q t. t.id ≡ q) own whole.own;
+        limits = new_fact (λ q t. IsObject t) limits whole.limits;
+        stands = λ at q. ap (λ groups. layer_in (get_or groups at []) q) f ∙ ap (λ g. layer_in g q) (get_end (with_group groups None (put_top (group groups None) id (pos 0))) at) ∙ layers at q ∙ sym (mapped (layer_at at) q);
+        grouped = ap length f ∙ length-append (with_group groups None (put_top (group groups None) id (pos 0))) ([] ∷ []) ∙ ap (λ n. n + 1) (length-set groups 0 (put_top (group groups None) id (pos 0)) ∙ whole.grouped) ∙ ap (λ n. n + 1) (sym (length-append objects (Some o ∷ [])));
+        tied = λ q. ap (λ ties. get ties q) g ∙ get_put_tie ties id (tie_of o) q ∙ ap (λ tie. if q == id then Some (tie_of o) else tie) (whole.tied q) ∙ sym (tied_map q);
+      })
+    where
+      end_of : (q : ℕ) → of_id (objects ++ Some o ∷ []) q ≡ (if q == id then Some o else of_id objects q)
+      end_of q = of_id_end objects q (Some o) ∙ ap (λ n. if q == n then Some o else of_id objects q) (sym next)
 
-  pub looked_to : (id : ℕ) (o : Object) (c : Change) (objects' : List (Option Object)) → of_id objects id ≡ Some o → IsLook c → objects' ≡ put objects id (option_map (apply c) (of_id objects id)) → IsWhole w h objects' order
-  looked_to id o c objects' there look e =
-      let P : List (Option Object) → Type 0 = λ objects. IsWhole w h objects order in
-      subst P (sym (e ∙ ap (λ slot. put objects id (option_map (apply c) slot)) there)) (looked id o c there look)
+      new_fact : (P : ℕ → Object → Type 0) → P id o → ((q : ℕ) (t : Object) → of_id objects q ≡ Some t → P q t) → (q : ℕ) (t : Object) → of_id (objects ++ Some o ∷ []) q ≡ Some t → P q t
+      new_fact P new old q t at_q = some_choice (q == id) (Some o) (of_id objects q) t (P q t) (sym (end_of q) ∙ at_q)
+          (λ e f. let same : q ≡ id = grind (arith, nat_tests, e) in subst (λ q. P q t) (sym same) (subst (λ t. P id t) (same_Some _ _ f) new)) (λ e f. old q t f)
 
-  pub lifted_to : (id : ℕ) (o : Object) (layer : ℤ) (objects' : List (Option Object)) (order' : List (ℕ × ℤ)) → of_id objects id ≡ Some o → is_layer layer ≡ true → IsDistinct order
-      → objects' ≡ put objects id (option_map (apply (change.Lift layer)) (of_id objects id)) → order' ≡ relayered order id layer → IsWhole w h objects' order'
-  lifted_to id o layer objects' order' there fits distinct e f =
-      let P : List (Option Object) → List (ℕ × ℤ) → Type 0 = λ objects order. IsWhole w h objects order in
-      subst (λ order. P objects' order) (sym f)
-      (subst (λ objects. P objects (relayered order id layer)) (sym (e ∙ ap (λ slot. put objects id (option_map (apply (change.Lift layer)) slot)) there)) (lifted id o layer there fits distinct))
+      mapped : {B : Type 0} (f : Object → Option B) (q : ℕ) → option_and_then f (of_id (objects ++ Some o ∷ []) q) ≡ (if q == id then f o else option_and_then f (of_id objects q))
+      mapped f q = ap (option_and_then f) (end_of q) ∙ choice (q == id) where
+        choice : (b : Bool) → option_and_then f (if b then Some o else of_id objects q) ≡ (if b then f o else option_and_then f (of_id objects q))
+        choice true = refl
+        choice false = refl
 
-  pub deleted_to : (id : ℕ) (o : Object) (objects' : List (Option Object)) (order' : List (ℕ × ℤ)) → of_id objects id ≡ Some o → IsDistinct order
-      → objects' ≡ put objects id None → order' ≡ without order id → IsWhole w h objects' order'
-  deleted_to id o objects' order' there distinct e f =
-      let P : List (Option Object) → List (ℕ × ℤ) → Type 0 = λ objects order. IsWhole w h objects order in
-      subst (λ order. P objects' order) (sym f) (subst (λ objects. P objects (without order id)) (sym e) (deleted id o there distinct))
+      tied_map : (q : ℕ) → option_map tie_of (of_id (objects ++ Some o ∷ []) q) ≡ (if q == id then Some (tie_of o) else option_map tie_of (of_id objects q))
+      tied_map q = ap (option_map tie_of) (end_of q) ∙ choice (q == id) where
+        choice : (b : Bool) → option_map tie_of (if b then Some o else of_id objects q) ≡ (if b then Some (tie_of o) else option_map tie_of (of_id objects q))
+        choice true = refl
+        choice false = refl
 
-  -- an object that is there stands in the order
-  pub stands_in : (id : ℕ) (o : Object) → of_id objects id ≡ Some o → layer_in order id ≡ Some o.layer
-  stands_in id o there = whole.stands id ∙ ap (option_map (λ o. o.layer)) there
+      get_end : (xs : List (List (ℕ × ℤ))) (at : ℕ) → get_or (xs ++ [] ∷ []) at [] ≡ get_or xs at []
+      get_end [] zero = refl
+      get_end [] (suc at) = refl
+      get_end (x ∷ xs) zero = refl
+      get_end (x ∷ xs) (suc at) = get_end xs at
 
-  -- the object of an id that was found by its name
-  pub by_name : {P : Type 0} (id : ℕ) (found : Option Object) → Some id ≡ option_map (λ o. o.id) found → of_id objects id ≡ found → ((o : Object) → of_id objects id ≡ Some o → P) → P
-  by_name id None e there go = absurd (none-some id (sym e))
-  by_name id (Some o) e there go = go o there
+      absent : (at : ℕ) → layer_in (get_or groups at []) id ≡ None
+      absent at = ap (layer_in (get_or groups at [])) next ∙ next_absent at
 
-pub made_to : (w h : ℕ) (states : List (Option (Held Object))) (order : List (ℕ × ℤ)) → IsWhole w h (values_of states) order
-    → (states' : List (Option (Held Object))) (s : Held Object) (name : List ℕ) (id : ℕ) (order' : List (ℕ × ℤ)) → states' ≡ states ++ Some s ∷ [] → s.value ≡ fresh id name kind.Rect → id ≡ length states + 1 → order' ≡ put_top order id (pos 0)
-    → IsWhole w h (values_of states') order'
-made_to w h states order whole states' s name id order' e f next g =
+      layers : (at q : ℕ) → layer_in (get_or (with_group groups None (put_top (group groups None) id (pos 0))) at []) q ≡ (if q == id then layer_at at o else option_and_then (layer_at at) (of_id objects q))
+      layers at q =
+          let some : 0 < length groups = let e = whole.grouped in omega (arith, e) in
+          ap (λ g. layer_in g q) (get_set groups 0 at (put_top (group groups None) id (pos 0)) [] some) ∙ elim (eqb_tells at 0) [
+            | inl here ↦ rw here.0 (layer_in-pushed (group groups None) id (pos 0) q (apart_absent (group groups None) id (absent 0))
+                ∙ ap₂ (λ mine other. if q == id then mine else other) (own_layer at here.1) (ap (λ at. layer_in (get_or groups at []) q) (sym here.1) ∙ whole.stands at q))
+            | inr away ↦ rw away.0 (whole.stands at q ∙ elim (eqb_tells q id) [
+              | inl same ↦ rw same.0 (ap (λ q. option_and_then (layer_at at) (of_id objects q)) same.1 ∙ sym (whole.stands at id) ∙ absent at ∙ nowhere at away.1)
+              | inr differ ↦ rw differ.0 refl
+            ])
+          ]
+        where
+          own_layer : (at : ℕ) → at ≡ 0 → Some (pos 0) ≡ layer_at at o
+          own_layer at here = ap (λ layer. Some layer) (sym low) ∙ ap₂ (λ p at. if place p == at then Some o.layer else None) (sym free) (sym here)
+
+          nowhere : (at : ℕ) → at ≢ 0 → None ≡ layer_at at o
+          nowhere at away = let differ : (0 == at) ≡ false = grind (arith, nat_tests, away) in ap (λ b. if b then Some o.layer else None) (sym differ) ∙ ap (λ p. if place p == at then Some o.layer else None) (sym free)
+
+-- before anything was made
+pub at_start : (states : List (Option (Held Object))) (groups : List (List (ℕ × ℤ))) (ties : Ties) → states ≡ [] → groups ≡ [] ∷ [] → ties ≡ empty → IsWhole 320 240 (values_of states) groups ties
+at_start states groups ties e f g = rw (e, f, g) (record {
+  w_low = omega arith;
+  w_high = omega arith;
+  h_low = omega arith;
+  h_high = omega arith;
+  own = λ id o there. absurd (none-some o (sym (none id) ∙ there));
+  limits = λ id o there. absurd (none-some o (sym (none id) ∙ there));
+  stands = λ at id. nobody at id ∙ sym (ap (option_and_then (layer_at at)) (none id));
+  grouped = refl;
+  tied = λ id. get-empty _ id ∙ ap (option_map tie_of) (sym (none id));
+}) where
+  none : (id : ℕ) → of_id {A = Object} [] id ≡ None
+  none zero = refl
+  none (suc k) = of_id_suc {A = Object} [] k
+
+  nobody : (at id : ℕ) → layer_in (get_or ([] ∷ []) at []) id ≡ None
+  nobody zero id = refl
+  nobody (suc at) id = refl
+
+-- a tie that was added is known
+pub known_tie : (ties ties' : Ties) (id : ℕ) (kind : Kind) (fault : LinkErr) → ties' ≡ insert ties id (alone kind) → Some fault ≡ known_fault ties' id → ⊥
+known_tie ties ties' id kind fault e f =
+    let there : get ties' id ≡ Some (alone kind) = ap (λ ties. get ties id) e ∙ get_put_tie ties id (alone kind) id ∙ (let same : (id == id) ≡ true = grind (arith, nat_tests) in ap (λ b. if b then Some (alone kind) else get ties id) same) in
+    none-some fault (sym (f ∙ ap (λ tie. if is_some tie then None else Some Unknown) there))
+
+-- the same of states
+pub made_to : (w h : ℕ) (states : List (Option (Held Object))) (groups : List (List (ℕ × ℤ))) (ties : Ties) → IsWhole w h (values_of states) groups ties
+    → (states' : List (Option (Held Object))) (s : Held Object) (name : List ℕ) (kind : Kind) (id : ℕ) (groups' : List (List (ℕ × ℤ))) (ties' : Ties) → is_plain kind ≡ true → id ≡ length states + 1 → s.value ≡ fresh id name kind
+    → states' ≡ states ++ Some s ∷ [] → groups' ≡ with_group groups None (put_top (group groups None) (length groups) (pos 0)) ++ [] ∷ [] → ties' ≡ insert ties id (alone kind)
+    → IsWhole w h (values_of states') groups' ties'
+made_to w h states groups ties whole states' s name kind id groups' ties' plain next new e f g =
     let objects : List (Option Object) = values_of states in
     let size : length objects ≡ length states = length-map states (λ slot. option_map value_of slot) in
-    let last : id ≡ length objects + 1 = next ∙ ap (λ n. n + 1) (sym size) in
-    let values : values_of states' ≡ objects ++ Some (fresh (length objects + 1) name kind.Rect) ∷ [] =
-    ap values_of e ∙ map-append (λ slot. option_map value_of slot) states (Some s ∷ []) ∙ ap (λ o. objects ++ Some o ∷ []) (f ∙ ap (λ id. fresh id name kind.Rect) last) in
-    let P : List (Option Object) → Type 0 = λ objects. IsWhole w h objects order' in
-    let Q : List (ℕ × ℤ) → Type 0 = λ order. IsWhole w h (objects ++ Some (fresh (length objects + 1) name kind.Rect) ∷ []) order in
-    subst P (sym values) (subst Q (sym (g ∙ ap (λ id. put_top order id (pos 0)) last))
-    (made w h objects order whole name (apart_absent order (length objects + 1) (next_free w h objects order whole))))
+    let next' : id ≡ length objects + 1 = next ∙ ap (λ n. n + 1) (sym size) in
+    let place : length groups ≡ id = whole.grouped ∙ sym next' in
+    made w h objects groups ties whole id s.value (values_of states') groups' ties' next'
+    (ap (λ o. o.id) new) (ap (λ o. o.parent) new) (ap (λ o. o.layer) new) (subst (λ o. IsObject o) (sym new) (new_object id name kind plain))
+    (ap values_of e ∙ map-append (λ slot. option_map value_of slot) states (Some s ∷ []))
+    (f ∙ ap (λ n. with_group groups None (put_top (group groups None) n (pos 0)) ++ [] ∷ []) place)
+    (g ∙ ap (insert ties id) (sym (ap tie_of new ∙ fresh_tie id name kind plain)))
+  where
+    new_object : (id : ℕ) (name : List ℕ) (kind : Kind) → is_plain kind ≡ true → IsObject (fresh id name kind)
+    new_object id name Rect plain = record { layer_low = omega (arith, ints); layer_high = omega (arith, ints); content = tt }
+    new_object id name Smart plain = record { layer_low = omega (arith, ints); layer_high = omega (arith, ints); content = tt }
+    new_object id name Image plain = absurd (true≢false (sym plain))
+    new_object id name Text plain = absurd (true≢false (sym plain))
+
+    fresh_tie : (id : ℕ) (name : List ℕ) (kind : Kind) → is_plain kind ≡ true → tie_of (fresh id name kind) ≡ alone kind
+    fresh_tie id name Rect plain = refl
+    fresh_tie id name Smart plain = refl
+    fresh_tie id name Image plain = absurd (true≢false (sym plain))
+    fresh_tie id name Text plain = absurd (true≢false (sym plain))
+
+pub next_of : (states : List (Option (Held Object))) (id : ℕ) → id ≡ length states + 1 → id ≡ length (values_of states) + 1
+next_of states id next = next ∙ ap (λ n. n + 1) (sym (length-map states (λ slot. option_map value_of slot)))

@@ -1,5 +1,5 @@
 -- Changes of one object.
-use Rattle.std.specs.Prelude.{◌≡◌, ℕ, ℤ, pos, neg_ℤ, Bool, true, ◌&&◌, false, int_le, unsigned_abs, List, [], Some, None}
+use Rattle.std.specs.Prelude.{◌≡◌, ℕ, ℤ, pos, neg_ℤ, Bool, true, ◌&&◌, false, int_le, unsigned_abs, List, [], None}
 use Rattle.ev_argb.specs.Argb.{Argb, clamped}
 use Rattle.ev_geom.specs.Area.{is_place, is_side, nowhere}
 use Rattle.ev_model.specs.declared.content.Content.{Content}
@@ -20,6 +20,8 @@ apply (change.Appear on) o = record o { shown = on }
 apply (change.Paint color) o = record o { color = color }
 apply (change.Treat op) o = record o { op = op }
 apply (change.Lift layer) o = record o { layer = layer }
+apply (change.Clip clipper) o = record o { clipper = clipper }
+apply (change.Enter parent) o = record o { parent = parent }
 
 -- from low to high
 abbrev pub is_between : ℤ → ℤ → ℤ → Bool
@@ -44,7 +46,7 @@ are_channels r g b a = is_channel r && is_channel g && is_channel b && is_channe
 unfoldable pub color_of : ℤ → ℤ → ℤ → ℤ → Argb
 color_of r g b a = clamped (unsigned_abs a) (unsigned_abs r) (unsigned_abs g) (unsigned_abs b)
 
--- a change that leaves the layer, and whose numbers are in range
+-- a change that leaves the layer, the clipper and the parent, and whose numbers are in range
 abbrev pub IsLook : Change → Type 0
 IsLook (change.Place x y) = (is_place x ≡ true) × (is_place y ≡ true)
 IsLook (change.Side w h) = (is_side w ≡ true) × (is_side h ≡ true)
@@ -52,10 +54,14 @@ IsLook (change.Appear on) = Unit {0}
 IsLook (change.Paint color) = Unit {0}
 IsLook (change.Treat op) = Unit {0}
 IsLook (change.Lift layer) = ⊥
+IsLook (change.Clip clipper) = ⊥
+IsLook (change.Enter parent) = ⊥
 
 -- the numbers of a change are in range
 abbrev pub IsFit : Change → Type 0
 IsFit (change.Lift layer) = is_layer layer ≡ true
+IsFit (change.Clip clipper) = Unit {0}
+IsFit (change.Enter parent) = Unit {0}
 IsFit other = IsLook other
 
 -- the content of a new object: an image fills it, without borders and with the centre on; a text is empty
@@ -64,6 +70,12 @@ content_of kind.Rect = content.Rect
 content_of kind.Smart = content.Smart
 content_of kind.Image = content.Image (record { key = None; loaded = None; fill = Filled; border = record { l = 0; r = 0; t = 0; b = 0 }; center = true })
 content_of kind.Text = content.Text (record { key = None; loaded = None; text = [] })
+
+-- rectangles and smart objects are made so far
+abbrev pub is_plain : Kind → Bool
+is_plain kind.Rect = true
+is_plain kind.Smart = true
+is_plain other = false
 
 -- a new object: at 0, 0, without size, hidden, white, blended, in layer 0, and over it nothing
 abbrev pub fresh : ℕ → List ℕ → Kind → Object

@@ -1,30 +1,31 @@
 -- Edits of a scene: when each is refused, and what it does.
-use Rattle.std.specs.Prelude.{◌≡◌, ℕ, ◌+◌, ℤ, pos, Bool, true, false, not, ◌&&◌, ◌==◌, nat_lt, unsigned_abs, if◌then◌else◌, List, [], ◌∷◌, ◌++◌, length, Option, Some, None, Result, MatchResult}
-use Rattle.std.specs.Option.{option_eq, option_map_or}
+use Rattle.std.specs.Prelude.{◌≡◌, ℕ, ◌+◌, ℤ, ◌+ℤ◌, ◌-ℤ◌, ◌≤ℤ◌, pos, neg_ℤ, Bool, true, false, not, ◌&&◌, ◌||◌, ◌==◌, nat_lt, unsigned_abs, if◌then◌else◌, List, [], ◌∷◌, ◌++◌, length, map, filter, filter_map, Option, Some, None, is_some, Result, MatchResult}
+use Rattle.std.specs.List.{list_any, list_all}
+use Rattle.std.specs.Option.{option_eq, option_map, option_map_or, option_and_then}
 use Rattle.std.specs.Ordering.{int_eq}
 use Rattle.ev_geom.specs.Area.{is_place, is_side}
-use Rattle.ev_model.specs.Up.{is_smart}
+use Rattle.ev_model.specs.Up.{is_smart, is_clipped_by, up}
 use Rattle.ev_model.specs.declared.command.Edit.{Edit}
 use Rattle.ev_model.specs.declared.command.Edit.TheVariants as edit
-use Rattle.ev_model.specs.declared.content.Kind.TheVariants as kind
+use Rattle.ev_model.specs.declared.content.Content.{Content}
+use Rattle.ev_model.specs.declared.content.Content.TheVariants as content
 use Rattle.ev_model.specs.declared.object.Object.{Object}
 use Rattle.ev_model.specs.declared.refusal.Refusal.{Refusal}
 use Rattle.ev_model.specs.declared.refusal.Refusal.TheVariants as refusal
 use Rattle.ev_stack.specs.Order.{put_top, without}
 use Rattle.ev_stack.specs.Calls.{raised, lowered, relayered, placed_above, placed_below}
-use Rattle.ev_stack.specs.declared.siblings.StackErr.{StackErr}
-use Rattle.ev_stack.specs.declared.siblings.StackErr.TheVariants as stack
-use Rattle.ev_scene.specs.Slots.{put, live}
-use Rattle.ev_scene.specs.Board.{Board, named}
-use Rattle.ev_scene.specs.Change.{apply, fresh, is_layer, is_canvas, are_channels, color_of}
+use Rattle.ev_links.specs.Ties.{has}
+use Rattle.ev_groups.specs.Groups.{group, with_group, siblings}
+use Rattle.ev_scene.specs.Slots.{of_id, put, live}
+use Rattle.ev_scene.specs.Board.{Board, named, inside}
+use Rattle.ev_scene.specs.Change.{apply, fresh, is_layer, is_canvas, are_channels, color_of, is_plain}
 use Rattle.ev_scene.specs.declared.change.Change.{Change}
 use Rattle.ev_scene.specs.declared.change.Change.TheVariants as change
 
 -- the edits that are carried out so far
 abbrev pub is_built : Edit → Bool
 is_built (edit.Size w h) = true
-is_built (edit.Make name kind.Rect) = true
-is_built (edit.Make name other) = false
+is_built (edit.Make name kind) = is_plain kind
 is_built (edit.Delete name) = true
 is_built (edit.Move name x y) = true
 is_built (edit.Resize name w h) = true
@@ -34,6 +35,10 @@ is_built (edit.SetOp name op) = true
 is_built (edit.Layer name layer) = true
 is_built (edit.Raise name up) = true
 is_built (edit.Place name other above) = true
+is_built (edit.Clip name clipper) = true
+is_built (edit.Unclip name) = true
+is_built (edit.Member name smart) = true
+is_built (edit.Free name) = true
 is_built other = false
 
 -- refused, unless a test holds
@@ -44,18 +49,53 @@ unless holds cause = if holds then None else Some cause
 abbrev pub known : Board → List ℕ → (Object → Option Refusal) → Option Refusal
 known board name test = option_map_or test (named board.objects name) (Some refusal.Unknown)
 
+-- both stand in the same object, or in none
+abbrev pub are_siblings : Object → Object → Bool
+are_siblings o p = option_eq ◌==◌ o.parent p.parent
+
 -- why o cannot stand next to p
 abbrev pub beside : Object → Object → Option Refusal
 beside o p =
     if o.id == p.id then Some refusal.Itself
-    else if not (option_eq ◌==◌ o.parent p.parent) then Some refusal.Sibling
+    else if not (are_siblings o p) then Some refusal.Sibling
     else unless (int_eq o.layer p.layer) refusal.Layer
 
--- why siblings refuse a move, told of an edit
-abbrev pub refusal_of : StackErr → Refusal
-refusal_of stack.Unknown = refusal.Unknown
-refusal_of stack.Itself = refusal.Itself
-refusal_of stack.Layer = refusal.Layer
+abbrev pub is_rect : Content → Bool
+is_rect content.Rect = true
+is_rect other = false
+
+-- why c cannot clip o
+abbrev pub clip_verdict : Board → Object → Object → Option Refusal
+clip_verdict board o c =
+    if o.id == c.id then Some refusal.Itself
+    else if not (is_rect c.content) then Some refusal.Kind
+    else if not (are_siblings o c) then Some refusal.Sibling
+    else unless (not (list_any (λ u. u.id == o.id) (up (live board.objects) c))) refusal.Cycle
+
+-- whether an object clips another one or has a clipper
+abbrev pub is_clipping : Board → Object → Bool
+is_clipping board o = list_any (is_clipped_by o.id) (live board.objects) || is_some o.clipper
+
+-- why o cannot join s
+abbrev pub join_verdict : Board → Object → Object → Option Refusal
+join_verdict board o s =
+    if o.id == s.id then Some refusal.Itself
+    else if not (is_smart s) then Some refusal.Kind
+    else if has (inside board o) s.id then Some refusal.Cycle
+    else unless (not (is_clipping board o)) refusal.Clipping
+
+-- whether an object's place is in range, once it has moved by dx and dy
+abbrev pub may_shift : ℤ → ℤ → Object → Bool
+may_shift dx dy o = is_place (o.rect.x +ℤ dx) && is_place (o.rect.y +ℤ dy)
+
+-- the objects that are an object or stand inside it
+abbrev pub objects_in : Board → Object → List Object
+objects_in board o = filter_map (of_id board.objects) (inside board o)
+
+-- a smart object takes along all that stands inside it, and each of these needs a place in range
+abbrev pub move_verdict : ℤ → ℤ → Board → Object → Option Refusal
+move_verdict x y board o =
+    unless (if is_smart o then list_all (may_shift (x -ℤ o.rect.x) (y -ℤ o.rect.y)) (objects_in board o) else is_place x && is_place y) refusal.Range
 
 -- a new object needs a free name, and fewer than 65,536 objects that are there
 abbrev pub make_verdict : Board → List ℕ → Option Refusal
@@ -66,7 +106,7 @@ abbrev pub verdict : Board → Edit → Option Refusal
 verdict board (edit.Size w h) = unless (is_canvas w h) refusal.Range
 verdict board (edit.Make name kind) = make_verdict board name
 verdict board (edit.Delete name) = known board name (λ o. None)
-verdict board (edit.Move name x y) = known board name (λ o. unless (is_place x && is_place y) refusal.Range)
+verdict board (edit.Move name x y) = known board name (move_verdict x y board)
 verdict board (edit.Resize name w h) = known board name (λ o. unless (is_side w && is_side h) refusal.Range)
 verdict board (edit.Show name on) = known board name (λ o. None)
 verdict board (edit.Color name r g b a) = known board name (λ o. unless (are_channels r g b a) refusal.Range)
@@ -74,47 +114,106 @@ verdict board (edit.SetOp name op) = known board name (λ o. unless (not (is_sma
 verdict board (edit.Layer name layer) = known board name (λ o. unless (is_layer layer) refusal.Range)
 verdict board (edit.Raise name up) = known board name (λ o. None)
 verdict board (edit.Place name other above) = known board name (λ o. known board other (beside o))
+verdict board (edit.Clip name clipper) = known board name (λ o. known board clipper (clip_verdict board o))
+verdict board (edit.Unclip name) = known board name (λ o. None)
+verdict board (edit.Member name smart) = known board name (λ o. known board smart (join_verdict board o))
+verdict board (edit.Free name) = known board name (λ o. unless (not (is_clipping board o)) refusal.Clipping)
 verdict board other = None
 
 -- what is made of the object of a name; where there is none, nothing changes
 abbrev pub with_named : Board → List ℕ → (Object → Board) → Board
 with_named board name make = option_map_or make (named board.objects name) board
 
+-- the groups, with an object on top of its layer in a parent
+abbrev pub entered : Option ℕ → Object → List (List (ℕ × ℤ)) → List (List (ℕ × ℤ))
+entered parent o groups = with_group groups parent (put_top (group groups parent) o.id o.layer)
+
+-- the groups, where an object is gone from a parent
+abbrev pub gone_from : Option ℕ → Object → List (List (ℕ × ℤ)) → List (List (ℕ × ℤ))
+gone_from parent o groups = with_group groups parent (without (group groups parent) o.id)
+
+-- a new object stands in no other one, and has no members
 abbrev pub made : Board → Object → Board
-made board o = record board { objects = board.objects ++ Some o ∷ []; order = put_top board.order o.id o.layer }
+made board o = record board { objects = board.objects ++ Some o ∷ []; groups = entered None o board.groups ++ [] ∷ [] }
 
 -- the next id goes to the new object
 abbrev pub next_id : Board → ℕ
 next_id board = length board.objects + 1
 
+-- what stays of an object where some ids go: nothing if it goes itself, and else it without a clipper that goes
+abbrev pub left : List ℕ → Object → Option Object
+left gone o = if has gone o.id then None else Some (if option_map_or (has gone) o.clipper false then record o { clipper = None } else o)
+
+-- the groups, where nothing stands in any of these ids
+abbrev pub emptied : List ℕ → List (List (ℕ × ℤ)) → List (List (ℕ × ℤ))
+emptied [] groups = groups
+emptied (id ∷ ids) groups = emptied ids (with_group groups (Some id) [])
+
+-- an object goes with all that stands inside it
 abbrev pub deleted : Board → Object → Board
-deleted board o = record board { objects = put board.objects o.id None; order = without board.order o.id }
+deleted board o = record board {
+  objects = map (λ slot. option_and_then (left (inside board o)) slot) board.objects;
+  groups = emptied (inside board o) (gone_from o.parent o board.groups);
+}
 
 abbrev pub changed : Change → Board → Object → Board
 changed change board o = record board { objects = put board.objects o.id (Some (apply change o)) }
 
-abbrev pub relaid : ℤ → Board → Object → Board
-relaid layer board o = record (changed (change.Lift layer) board o) { order = relayered board.order o.id layer }
+-- an object moved by dx and dy
+abbrev pub shifted_by : ℤ → ℤ → Object → Object
+shifted_by dx dy o = apply (change.Place (o.rect.x +ℤ dx) (o.rect.y +ℤ dy)) o
 
-abbrev pub restacked : (List (ℕ × ℤ) → ℕ → List (ℕ × ℤ)) → Board → Object → Board
-restacked move board o = record board { order = move board.order o.id }
+-- an object and all that stands inside it moved by dx and dy
+abbrev pub shifted_all : ℤ → ℤ → Board → Object → Board
+shifted_all dx dy board o = record board { objects = map (λ slot. option_map (λ p. if has (inside board o) p.id then shifted_by dx dy p else p) slot) board.objects }
+
+-- an object goes to x, y, and takes along all that stands inside it
+abbrev pub moved : ℤ → ℤ → Board → Object → Board
+moved x y board o = if is_smart o then shifted_all (x -ℤ o.rect.x) (y -ℤ o.rect.y) board o else changed (change.Place x y) board o
+
+-- two places in range lie no further apart than this
+pub record IsShift (d : ℤ) : Type 0 where
+  pub low : neg_ℤ (pos 2000000) ≤ℤ d
+  pub high : d ≤ℤ pos 2000000
+
+-- other siblings in an object's group
+abbrev pub regrouped : (List (ℕ × ℤ) → List (ℕ × ℤ)) → Board → Object → Board
+regrouped move board o = record board { groups = with_group board.groups o.parent (move (group board.groups o.parent)) }
+
+abbrev pub relaid : ℤ → Board → Object → Board
+relaid layer board o = regrouped (λ group. relayered group o.id layer) (changed (change.Lift layer) board o) o
+
+abbrev pub restacked : Bool → Board → Object → Board
+restacked up board o = regrouped (λ group. (if up then raised else lowered) group o.id) board o
 
 abbrev pub placed : Bool → Board → Object → Object → Board
-placed above board o p = record board { order = if above then placed_above board.order o.id p.id else placed_below board.order o.id p.id }
+placed above board o p = regrouped (λ group. if above then placed_above group o.id p.id else placed_below group o.id p.id) board o
+
+-- an object goes from where it stands to the top of its layer in another parent, or in none
+abbrev pub rehomed : Option ℕ → Board → Object → Board
+rehomed parent board o = record (changed (change.Enter parent) board o) { groups = gone_from o.parent o (entered parent o board.groups) }
+
+-- a member stays where it is
+abbrev pub homed : Option ℕ → Board → Object → Board
+homed parent board o = if option_eq ◌==◌ o.parent parent then board else rehomed parent board o
 
 -- what an edit does
 abbrev pub effect : Board → Edit → Board
 effect board (edit.Size w h) = record board { w = unsigned_abs w; h = unsigned_abs h }
 effect board (edit.Make name kind) = made board (fresh (next_id board) name kind)
 effect board (edit.Delete name) = with_named board name (deleted board)
-effect board (edit.Move name x y) = with_named board name (changed (change.Place x y) board)
+effect board (edit.Move name x y) = with_named board name (moved x y board)
 effect board (edit.Resize name w h) = with_named board name (changed (change.Side w h) board)
 effect board (edit.Show name on) = with_named board name (changed (change.Appear on) board)
 effect board (edit.Color name r g b a) = with_named board name (changed (change.Paint (color_of r g b a)) board)
 effect board (edit.SetOp name op) = with_named board name (changed (change.Treat op) board)
 effect board (edit.Layer name layer) = with_named board name (relaid layer board)
-effect board (edit.Raise name up) = with_named board name (restacked (if up then raised else lowered) board)
+effect board (edit.Raise name up) = with_named board name (restacked up board)
 effect board (edit.Place name other above) = with_named board name (λ o. with_named board other (placed above board o))
+effect board (edit.Clip name clipper) = with_named board name (λ o. with_named board clipper (λ c. changed (change.Clip (Some c.id)) board o))
+effect board (edit.Unclip name) = with_named board name (changed (change.Clip None) board)
+effect board (edit.Member name smart) = with_named board name (λ o. with_named board smart (λ s. homed (Some s.id) board o))
+effect board (edit.Free name) = with_named board name (homed None board)
 effect board other = board
 
 -- an edit is refused by its first refusal; where there is none, memory may be wanting
@@ -131,7 +230,13 @@ Answers verdict old after result new = MatchResult result
 abbrev pub Edits : {T : Type 0} → Board → Edit → Result T Refusal → Board → Type 0
 Edits old edit result new = Answers (verdict old edit) old (effect old edit) result new
 
--- how many states an edit makes at most: it names one object, or none
-abbrev pub writes : Edit → ℕ
-writes (edit.Size w h) = 0
-writes other = 1
+-- what an object clips stands beside it
+abbrev pub clipped_by : Board → Object → List Object
+clipped_by board o = filter (is_clipped_by o.id) (filter_map (of_id board.objects) (siblings board.groups o.parent))
+
+-- how many states an edit makes at most: one for the object that it names, and one for each other object that it changes and that stays
+abbrev pub writes : Board → Edit → ℕ
+writes board (edit.Size w h) = 0
+writes board (edit.Move name x y) = option_map_or (λ o. length (inside board o)) (named board.objects name) 1
+writes board (edit.Delete name) = option_map_or (λ o. length (clipped_by board o) + 1) (named board.objects name) 1
+writes board other = 1

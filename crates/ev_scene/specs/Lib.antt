@@ -1,7 +1,11 @@
 pub mod Slots
+pub mod Ties
 pub mod Board
 pub mod Change
 pub mod Edits
 pub mod Captured
 pub mod Roll
 pub mod Whole
+pub mod Cast
+pub mod Links
+pub mod Sights

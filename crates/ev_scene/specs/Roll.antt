@@ -29,3 +29,7 @@ pub record IsRoll (states : List (Option (Held Object))) (ids : List (Label × �
   pub own : (id : ℕ) (s : Held Object) → of_id states id ≡ Some s → s.value.id ≡ id
   pub leads : (name : List ℕ) (id : ℕ) → (id_in ids name ≡ Some id) ↔ (name_at states id ≡ Some name)
   pub size : length ids ≡ length (live states)
+
+-- a state for the object of its id, which has its name
+abbrev pub IsStateOf : List (Option (Held Object)) → Held Object → Type 0
+IsStateOf states s = name_at states s.value.id ≡ Some s.value.name

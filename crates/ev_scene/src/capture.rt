@@ -1,17 +1,15 @@
 // Scenes as they are captured.
-ghost use Rattle.std.specs.Prelude.{◌≡◌, ◌≤◌, ◌++◌, IfOk, OnOk, All, map, filter_map, option_to_list};
-ghost use Rattle.ev_model.specs.Look.{look_of, has_pixels};
+ghost use Rattle.std.specs.Prelude.{◌≡◌, ◌++◌, IfOk, OnOk, option_to_list};
 ghost use Rattle.ev_model.specs.Stage.{stage, values};
 ghost use Rattle.ev_scene.specs.Slots.{of_id};
-ghost use Rattle.ev_scene.specs.Board.{board, in_order, stage_of};
-ghost use Rattle.ev_scene.specs.Whole.{IsPlain};
-ghost use Rattle.ev_scene.specs.Captured.{IsShot, plain_look, look_on};
+ghost use Rattle.ev_scene.specs.Board.{board, stage_of, values_of};
+ghost use Rattle.ev_scene.specs.Captured.{IsShot};
+ghost use Rattle.ev_scene.specs.Cast.{IsCast, board_of};
 
+use crate::cast::Cast;
+use crate::sights::records;
 use crate::{NoMemory, SceneBox};
-use ev_geom::Rect;
-use ev_model::{Object, Objects, Record, Scene};
-use ev_state::Shared;
-use std::alloc::Global;
+use ev_model::{Objects, Record, Scene};
 use std::marker::Model;
 
 /// A scene as it stood at a capture, with its records. Later edits leave it alone (docs/CANVAS.md,
@@ -55,8 +53,18 @@ impl SceneBox {
     pub fn capture(&self) -> Result<Captured, NoMemory>
         ensures { IfOk result (λ c. stage c.scene ≡ stage_of (board self.now)) }
     {
+        self.cast.capture()
+    }
+}
+
+impl Cast {
+    fn capture(&self) -> Result<Captured, NoMemory>
+        requires { IsCast self.now }
+        ensures { IfOk result (λ c. stage c.scene ≡ stage_of (board_of self.now)) }
+    {
+        let _ties = self.links.len();
         let objects = self.shares()?;
-        let records = records(self.roll.alloc(), self.w, self.h, &objects)?;
+        let records = records(self.roll.alloc(), self.w, self.h, &self.roll, &objects)?;
         let scene = Scene {
             w: self.w,
             h: self.h,
@@ -65,68 +73,28 @@ impl SceneBox {
         Ok(Captured { scene, records })
     }
 
-    // Shares of the states of all objects, from the bottom to the top.
+    // Shares of the states of all objects, in the order in which they are painted.
     fn shares(&self) -> Result<Objects, NoMemory>
-        ensures order { IfOk result (λ objects. values objects ≡ in_order (board self.now).objects self.now.order) }
-        ensures plain { IfOk result (λ objects. All IsPlain (values objects)) }
+        requires { IsCast self.now }
+        ensures { IfOk result (λ objects. values objects ≡ (stage_of (board_of self.now)).objects) }
     {
-        let mut objects = Objects::new(self.roll.alloc());
-        let mut at = self.order.bottom();
-        while let Some(id) = at {
-            self.push_share(&mut objects, id)?;
-            at = self.order.next_above(id);
+        let alloc = self.roll.alloc();
+        let mut ids = Vec::new(alloc);
+        self.groups.collect(&mut ids, None, self.roll.len())?;
+        let mut objects = Objects::new(alloc);
+        for id in &ids {
+            self.push_share(&mut objects, *id)?;
         }
         Ok(objects)
     }
 
     // Puts a share of the state of an id on top, if an object has that id.
     fn push_share(&self, objects: &mut Objects, id: u64) -> Result<(), NoMemory>
-        ensures { OnOk result (values objects.new ≡ values objects.old ++ option_to_list (of_id (board self.now).objects id)) }
+        ensures { OnOk result (values objects.new ≡ values objects.old ++ option_to_list (of_id (values_of self.now.roll.states) id)) }
     {
         if let Some(state) = self.roll.state(id) {
             objects.push(state.share()?)?;
         }
         Ok(())
     }
-}
-
-// The records of plain objects on a canvas of w by h pixels.
-fn records(alloc: Global, w: u32, h: u32, objects: &Objects) -> Result<Vec<Record>, NoMemory>
-    requires width { w ≤ 4096 }
-    requires height { h ≤ 4096 }
-    ensures { IfOk result (λ records. map look_of records.items ≡ filter_map (plain_look w h) (values objects.now)) }
-{
-    let canvas = Rect::at_origin(w, h);
-    let mut records = Vec::new(alloc);
-    for state in objects.as_slice() {
-        push_record(&mut records, &canvas, state)?;
-    }
-    Ok(records)
-}
-
-// Adds the record of a plain object, if anything is seen of it.
-fn push_record(
-    records: &mut Vec<Record>,
-    canvas: &Rect,
-    state: &Shared<Object>,
-) -> Result<(), NoMemory>
-    ensures { OnOk result (map look_of records.new.items ≡ map look_of records.old.items ++ option_to_list (look_on canvas.now state.now.value)) }
-{
-    let object = state.get();
-    let area = canvas.meet(&object.rect);
-    if object.shown && has_pixels(&area) {
-        records.push(Record {
-            id: object.id,
-            area,
-            color: object.color,
-            object: state.share()?,
-        })?;
-    }
-    Ok(())
-}
-
-fn has_pixels(area: &Rect) -> bool
-    ensures { result ≡ has_pixels area.now }
-{
-    0 < area.w() && 0 < area.h()
 }

@@ -1,12 +1,11 @@
 // Changes of one object, and new objects.
 ghost use Rattle.std.specs.Prelude.{◌≡◌, ◌&&◌, true, Some, None, IfSome, unsigned_abs, if◌then◌else◌};
 ghost use Rattle.ev_geom.specs.Area.{is_place, is_side};
-ghost use Rattle.ev_model.specs.declared.content.Kind.TheVariants as kind;
-ghost use Rattle.ev_scene.specs.Change.{apply, is_between, is_layer, is_channel, are_channels, color_of, fresh, IsFit, IsLook};
+ghost use Rattle.ev_scene.specs.Change.{apply, is_between, is_layer, is_channel, are_channels, color_of, fresh, content_of, is_plain, IsFit, IsLook};
 
 use ev_argb::Pixel;
 use ev_geom::{Rect, is_place, is_side};
-use ev_model::{Content, Name, Object, Op};
+use ev_model::{Content, Kind, Name, Object, Op};
 
 // A change of one object. Its numbers are in range.
 #[derive(Drop)]
@@ -17,6 +16,8 @@ pub enum Change {
     Paint(Pixel),
     Treat(Op),
     Lift(i64),
+    Clip(Option<u64>),
+    Enter(Option<u64>),
 }
 
 // Changes an object.
@@ -31,6 +32,8 @@ pub fn apply(change: &Change, object: &mut Object)
         Change::Paint(color) => object.color = color,
         Change::Treat(op) => object.op = op,
         Change::Lift(layer) => object.layer = layer as i32,
+        Change::Clip(clipper) => object.clipper = clipper,
+        Change::Enter(parent) => object.parent = parent,
     }
 }
 
@@ -109,9 +112,10 @@ pub fn is_layer(n: i64) -> bool
     is_between(-32_768, 32_767, n)
 }
 
-// A new rectangle.
-pub fn fresh_rect(id: u64, name: Name) -> Object
-    ensures { result ≡ fresh id name kind.Rect }
+// A new rectangle or smart object.
+pub fn fresh(id: u64, name: Name, kind: Kind) -> Object
+    requires { is_plain kind ≡ true }
+    ensures { result ≡ fresh id name kind }
 {
     Object {
         id,
@@ -123,6 +127,18 @@ pub fn fresh_rect(id: u64, name: Name) -> Object
         layer: 0,
         clipper: None,
         parent: None,
-        content: Content::Rect,
+        content: content_of(kind),
+    }
+}
+
+// The content of a new rectangle or smart object.
+fn content_of(kind: Kind) -> Content
+    requires { is_plain kind ≡ true }
+    ensures { result ≡ content_of kind }
+{
+    match kind {
+        Kind::Rect => Content::Rect,
+        Kind::Smart => Content::Smart,
+        _ => unreachable!(),
     }
 }

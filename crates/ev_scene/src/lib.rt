@@ -2,14 +2,21 @@
 #![tactic(auto)]
 
 mod capture;
+mod cast;
 mod change;
+mod delete;
 mod edit;
 mod label;
+mod linking;
 mod roll;
 mod scene_box;
+mod shift;
+mod sights;
+mod stacking;
 #[cfg(test)]
 mod tests;
 
 pub use capture::Captured;
+pub use edit::MAX_OBJECTS;
 pub use scene_box::SceneBox;
 pub use std::alloc::AllocError as NoMemory;

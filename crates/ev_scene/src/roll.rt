@@ -1,8 +1,9 @@
 // The objects of a scene, by id and by name.
-ghost use Rattle.std.specs.Prelude.{◌≡◌, ℕ, zero, ◌+◌, ◌<◌, ◌≤◌, ◌^◌, ◌++◌, ◌∷◌, [], length, OnOk, OnErr, IfOk, IfSome, Some, None, option_map, option_copied, is_some, true};
+ghost use Rattle.std.specs.Prelude.{◌≡◌, ℕ, zero, ◌+◌, ◌<◌, ◌≤◌, ◌^◌, ◌++◌, ◌∷◌, [], length, OnOk, OnErr, IfOk, IfSome, Some, None, option_map, option_copied, is_some, true, All, map, if◌then◌else◌};
 ghost use Rattle.ev_state.specs.Held.{Held};
 ghost use Rattle.ev_model.specs.declared.object.Object.{Object};
-ghost use Rattle.ev_scene.specs.Slots.{of_id, put, live, value_of};
+ghost use Rattle.ev_scene.specs.Slots.{of_id, put, spread, live, value_of};
+ghost use Rattle.ev_scene.specs.Roll.{IsStateOf};
 ghost use Rattle.ev_scene.specs.Board.{named, values_of};
 ghost use Rattle.ev_scene.specs.Change.{apply, IsFit};
 
@@ -14,6 +15,9 @@ use ev_state::{Shared, Tally};
 use indexmap::IndexMap;
 use std::alloc::Global;
 use std::marker::Model;
+
+// How many states may be made: no run comes near.
+const MAX_STATES: u64 = 1 << 62;
 
 // The state of each id that was given, and the id of each name.
 #[derive(Drop)]
@@ -115,15 +119,17 @@ impl Roll {
         self.ids.reserve(1)
     }
 
-    // A state for an object. It stands for no id yet.
+    // A state for an object. It stands for no id yet. There is no room for more than 2^62 states.
     pub fn make(&mut self, object: Object) -> Result<Shared<Object>, NoMemory>
-        requires { self.old.made < 2 ^ 63 }
         ensures value { IfOk result (λ state. state.value ≡ object) }
         ensures states { self.new.states ≡ self.old.states }
         ensures room { self.new.room ≡ self.old.room }
         ensures grows { self.old.made ≤ self.new.made }
         ensures made { self.new.made ≤ self.old.made + 1 }
     {
+        if self.tally.count() >= MAX_STATES {
+            return Err(NoMemory);
+        }
         Shared::make(self.alloc, object, &mut self.tally)
     }
 
@@ -147,38 +153,58 @@ impl Roll {
         };
     }
 
-    // Removes the object of a name, and says which id it had.
-    pub fn remove(&mut self, name: &Name) -> Option<u64>
-        ensures id { result ≡ option_map (λ o. o.id) (named (values_of self.old.states) name.now) }
-        ensures there { IfSome result (λ id. of_id (values_of self.old.states) id ≡ named (values_of self.old.states) name.now) }
-        ensures gone { IfSome result (λ id. self.new.states ≡ put self.old.states id None) }
-        ensures none { result ≡ None → self.new.states ≡ self.old.states }
-        ensures made { self.new.made ≡ self.old.made }
-    {
-        match self.ids.swap_remove(&Label { name: *name }) {
-            Some(id) => {
-                self.states[id as usize - 1] = None;
-                Some(id)
-            }
-            None => None,
-        }
-    }
-
     // Changes the object of an id, whose state is copied first where others hold it.
     pub fn change(&mut self, id: u64, change: &Change) -> Result<(), NoMemory>
         requires there { is_some (of_id self.old.states id) ≡ true }
         requires fit { IsFit change.now }
-        requires room { self.old.made < 2 ^ 63 }
         ensures ok { OnOk result (values_of self.new.states
             ≡ put (values_of self.old.states) id (option_map (apply change.now) (of_id (values_of self.old.states) id))) }
         ensures err { OnErr result (self.new.states ≡ self.old.states) }
         ensures grows { self.old.made ≤ self.new.made }
         ensures made { self.new.made ≤ self.old.made + 1 }
     {
+        if self.tally.count() >= MAX_STATES {
+            return Err(NoMemory);
+        }
         if let Some(state) = &mut self.states[id as usize - 1] {
             let object = state.edit(self.alloc, &mut self.tally)?;
             apply(change, object);
         }
         Ok(())
+    }
+
+    // Puts another state of the same object in place.
+    pub fn replace(&mut self, state: Shared<Object>)
+        requires { IsStateOf self.old.states state }
+        ensures states { self.new.states ≡ put self.old.states state.value.id (Some state) }
+        ensures made { self.new.made ≡ self.old.made }
+    {
+        let id = state.get().id;
+        self.states[id as usize - 1] = Some(state);
+    }
+
+    // Puts other states of some objects in place.
+    pub fn replace_all(&mut self, mut states: Vec<Shared<Object>>)
+        requires { All (IsStateOf self.old.states) states.items }
+        ensures states { values_of self.new.states ≡ spread (map value_of states.items) (values_of self.old.states) }
+        ensures made { self.new.made ≡ self.old.made }
+    {
+        while let Some(state) = states.pop() {
+            self.replace(state);
+        }
+    }
+
+    // Removes the object of an id, if there is one.
+    pub fn take(&mut self, id: u64)
+        ensures states { self.new.states ≡ (if is_some (of_id self.old.states id) then put self.old.states id None else self.old.states) }
+        ensures made { self.new.made ≡ self.old.made }
+    {
+        if let Some(object) = self.object(id) {
+            let label = Label { name: object.name };
+            let Some(_) = self.ids.swap_remove(&label) else {
+                unreachable!()
+            };
+            self.states[id as usize - 1] = None;
+        }
     }
 }

@@ -42,7 +42,7 @@ pub record State : Type 0 where
 
 -- a canvas of 320 by 240 without objects
 abbrev pub opening : State
-opening = record { scene = record { w = 320; h = 240; objects = []; order = [] }; starts = [] }
+opening = record { scene = record { w = 320; h = 240; objects = []; groups = [] ∷ [] }; starts = [] }
 
 -- the whole canvas of a scene
 abbrev pub whole : Board → Area

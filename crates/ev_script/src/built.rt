@@ -9,7 +9,7 @@ pub fn is_built(edit: &Edit) -> bool
     ensures { result ≡ is_built edit.now }
 {
     match edit {
-        Edit::Make { kind, .. } => matches!(*kind, Kind::Rect),
+        Edit::Make { kind, .. } => matches!(*kind, Kind::Rect | Kind::Smart),
         Edit::Size { .. }
         | Edit::Delete { .. }
         | Edit::Move { .. }
@@ -19,7 +19,11 @@ pub fn is_built(edit: &Edit) -> bool
         | Edit::SetOp { .. }
         | Edit::Layer { .. }
         | Edit::Raise { .. }
-        | Edit::Place { .. } => true,
+        | Edit::Place { .. }
+        | Edit::Clip { .. }
+        | Edit::Unclip { .. }
+        | Edit::Member { .. }
+        | Edit::Free { .. } => true,
         _ => false,
     }
 }

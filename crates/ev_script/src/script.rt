@@ -23,7 +23,6 @@ pub fn play<K: Sink, P: Screen>(
 ) -> Result<(), Failed>
     requires opening { StandsFor session.old opening }
     requires whole { HasWhole session.old }
-    requires unmade { session.old.scene.made ≡ 0 }
     requires short { length script.now < 2 ^ 30 }
     ensures played { OnOk result (Played script.now
         (outside (K.written sink.old) (P.shown screen.old) (P.faults screen.old))

@@ -35,7 +35,6 @@ impl Session {
         ensures opening { IfOk result (λ session. StandsFor session opening) }
         ensures whole { IfOk result HasWhole }
         ensures fresh { IfOk result (λ session. session.frames ≡ 0) }
-        ensures unmade { IfOk result (λ session. session.scene.made ≡ 0) }
     {
         Ok(Session {
             scene: SceneBox::new(alloc)?,
@@ -56,7 +55,6 @@ impl Session {
     ) -> Result<(), Failed>
         requires whole { HasWhole self.old }
         requires frames { self.old.frames < 2 ^ 40 }
-        requires made { self.old.scene.made < 2 ^ 62 }
         ensures carries { OnOk result (Carries Whole number line.now
             (outside (K.written sink.old) (P.shown screen.old) (P.faults screen.old))
             (outside (K.written sink.new) (P.shown screen.new) (P.faults screen.new)) self.old self.new) }
@@ -65,7 +63,6 @@ impl Session {
             (outside (K.written sink.new) (P.shown screen.new) (P.faults screen.new)) self.old self.new) }
         ensures whole { HasWhole self.new }
         ensures frames { self.new.frames ≤ self.old.frames + 1 }
-        ensures made { self.new.scene.made ≤ self.old.scene.made + 1 }
         ensures cause { HasCause (K.faults sink.old) (K.faults sink.new) result }
     {
         match line {
@@ -85,7 +82,6 @@ impl Session {
     ) -> Result<(), Failed>
         requires whole { HasWhole self.old }
         requires frames { self.old.frames < 2 ^ 40 }
-        requires made { self.old.scene.made < 2 ^ 62 }
         ensures carries { OnOk result (Carries Whole number (Line.Command command.now)
             (outside (K.written sink.old) (P.shown screen.old) (P.faults screen.old))
             (outside (K.written sink.new) (P.shown screen.new) (P.faults screen.new)) self.old self.new) }
@@ -94,7 +90,6 @@ impl Session {
             (outside (K.written sink.new) (P.shown screen.new) (P.faults screen.new)) self.old self.new) }
         ensures whole { HasWhole self.new }
         ensures frames { self.new.frames ≤ self.old.frames + 1 }
-        ensures made { self.new.scene.made ≤ self.old.scene.made + 1 }
         ensures cause { HasCause (K.faults sink.old) (K.faults sink.new) result }
     {
         match command {
@@ -114,7 +109,6 @@ impl Session {
         screen: &mut P,
     ) -> Result<(), Failed>
         requires whole { HasWhole self.old }
-        requires made { self.old.scene.made < 2 ^ 62 }
         ensures carries { OnOk result (Carries Whole number (Line.Command (Command.Edit edit.now))
             (outside (K.written sink.old) (P.shown screen.old) (P.faults screen.old))
             (outside (K.written sink.new) (P.shown screen.new) (P.faults screen.new)) self.old self.new) }
@@ -123,7 +117,6 @@ impl Session {
             (outside (K.written sink.new) (P.shown screen.new) (P.faults screen.new)) self.old self.new) }
         ensures whole { HasWhole self.new }
         ensures frames { self.new.frames ≤ self.old.frames + 1 }
-        ensures made { self.new.scene.made ≤ self.old.scene.made + 1 }
         ensures cause { HasCause (K.faults sink.old) (K.faults sink.new) result }
     {
         if !is_built(edit) {

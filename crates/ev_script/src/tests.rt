@@ -53,8 +53,9 @@ fn compare<R: AllocGlobal + Abort>(
 const RED: &[u8] = b"size 2 1\nrect r\nresize r 2 1\ncolor r 255 0 0 255\nshow r\nrender\ndump\n";
 
 // Scripts and their logs: a red rectangle; nothing; half red over white, and nearly opaque red over white;
-// a copy of nothing; raised and lowered rectangles and their totals; each kind of bad line; refusals.
-const LOGS: [(&[u8], &[u8]); 7] = [
+// a copy of nothing; raised and lowered rectangles and their totals; clippers over clippers; a group that is
+// moved, hidden and deleted; each kind of bad line; refusals.
+const LOGS: [(&[u8], &[u8]); 10] = [
     (RED, b"shown 1 2 1 1\nupdate 0 0 2 1\nffff0000 ffff0000\n"),
     (b"", b""),
     (
@@ -68,6 +69,18 @@ const LOGS: [(&[u8], &[u8]); 7] = [
     (
         b"size 2 1\nrect a\nresize a 2 1\ncolor a 255 0 0 255\nshow a\nrect b\nresize b 1 1\ncolor b 0 0 255 255\nshow b\nrender\ndump\nsum\nraise a\nrender\nsum\nabove b a\nrender\ndump\nbelow b a\nlayer b 1\nabove a b\ndelete a\nrender\ndump\n",
         b"shown 1 2 1 1\nupdate 0 0 2 1\nff0000ff ffff0000\nsum 510 255 0 255 1530\nshown 2 2 1 1\nupdate 0 0 2 1\nsum 510 510 0 0 1530\nshown 3 2 1 1\nupdate 0 0 2 1\nff0000ff ffff0000\nrefused layer 21\nshown 4 2 1 1\nupdate 0 0 2 1\nff0000ff 00000000\n",
+    ),
+    (
+        b"size 1 1\nrect o\nresize o 1 1\nshow o\nrect a\nresize a 1 1\ncolor a 128 128 128 128\nshow a\nclip o a\nrender\ndump\nrect b\nresize b 1 1\ncolor b 128 128 128 128\nshow b\nclip a b\nrender\ndump\nrect c\nresize c 1 1\ncolor c 128 128 128 128\nshow c\nclip b c\nrender\ndump\n",
+        b"shown 1 1 1 1\nupdate 0 0 1 1\n80808080\nshown 2 1 1 1\nupdate 0 0 1 1\n40404040\nshown 3 1 1 1\nupdate 0 0 1 1\n20202020\n",
+    ),
+    (
+        b"size 3 1\nsmart g\nshow g\nrect a\nresize a 1 1\nshow a\nmember a g\nsmart h\nshow h\nrect b\nmove b 1 0\nresize b 1 1\ncolor b 0 0 0 255\nshow b\nmember b h\nmember h g\nrender\ndump\nmove g 1 0\nrender\ndump\nmove g 1000000 0\nhide h\nrender\ndump\ndelete g\nrender\ndump\nshow b\n",
+        b"shown 1 3 1 1\nupdate 0 0 3 1\nffffffff ff000000 00000000\nshown 2 3 1 1\nupdate 0 0 3 1\n00000000 ffffffff ff000000\nrefused range 22\nshown 3 3 1 1\nupdate 0 0 3 1\n00000000 ffffffff 00000000\nshown 4 3 1 1\nupdate 0 0 3 1\n00000000 00000000 00000000\nrefused unknown 29\n",
+    ),
+    (
+        b"rect a\nrect b\nclip a a\nclip a b\nclip b a\nsmart s\nmember a s\nmember s a\nlayer b 1\nabove a b\nrect a\nshow z\nfill a 0 0 1 1\nimage i\nload i\ncancel i\nfree b\ndump\n",
+        b"refused itself 3\nrefused cycle 5\nrefused clipping 7\nrefused kind 8\nrefused layer 10\nrefused exists 11\nrefused unknown 12\nbad word 13\nbad word 14\nbad word 15\nbad word 16\nrefused clipping 17\nrefused none 18\n",
     ),
     (
         b"rect r\nmove r 1000001 0\nmove r 1000000 0\nmove r 01 0\nmove r 1\nmvoe r\nshow .r\n\n  \n # hm\nop r melt\n#\xc3\nsay r  \nimage i\n",
@@ -174,5 +187,72 @@ fn many_objects(rt: HostRuntime) -> Result<(), Fail> {
         Status::Ok,
         b"refused full 65537\n",
     )?;
+    Ok(())
+}
+
+// Adds to a script the front of a line, the name of number n, which is a letter and four digits, and the rest.
+fn push_line(
+    script: &mut Vec<u8>,
+    command: &[u8],
+    letter: u8,
+    n: u32,
+    rest: &[u8],
+) -> Result<(), Fail> {
+    script.extend_from_slice(command)?;
+    push_name(script, letter, n)?;
+    script.extend_from_slice(rest)?;
+    Ok(())
+}
+
+fn push_name(script: &mut Vec<u8>, letter: u8, n: u32) -> Result<(), Fail> {
+    let digits = [n / 1000 % 10, n / 100 % 10, n / 10 % 10, n % 10];
+    script.push(letter)?;
+    for digit in digits {
+        script.push(b'0' + (digit % 10) as u8)?;
+    }
+    Ok(())
+}
+
+// The lines that make object number n and tie the one before it to it.
+fn push_link(
+    script: &mut Vec<u8>,
+    make: &[u8],
+    tie: &[u8],
+    letter: u8,
+    n: u32,
+) -> Result<(), Fail> {
+    push_line(script, make, letter, n, b"\n")?;
+    push_line(script, b"resize ", letter, n, b" 1 1\n")?;
+    push_line(script, b"show ", letter, n, b"\n")?;
+    if n > 0 {
+        push_line(script, tie, letter, n - 1, b" ")?;
+        push_name(script, letter, n)?;
+        script.push(b'\n')?;
+    }
+    Ok(())
+}
+
+// 4,000 rectangles, each clipped by the next, and 4,000 smart objects, each in the next, with a rectangle in the first.
+#[test]
+fn long_ways_up(rt: HostRuntime) -> Result<(), Fail> {
+    let chains: [(&[u8], &[u8], u8, &[u8]); 2] = [
+        (b"rect ", b"clip ", b'r', b""),
+        (
+            b"smart ",
+            b"member ",
+            b's',
+            b"rect r\nresize r 1 1\nshow r\nmember r s0000\n",
+        ),
+    ];
+    for (make, tie, letter, last) in chains {
+        let mut script = b"size 2 1\n".to_vec(rt.alloc())?;
+        for n in 0..4000 {
+            push_link(&mut script, make, tie, letter, n)?;
+        }
+        script.extend_from_slice(last)?;
+        script.extend_from_slice(b"render\ndump\n")?;
+        let log: &[u8] = b"shown 1 2 1 1\nupdate 0 0 2 1\nffffffff 00000000\n";
+        compare(&rt, &[], &script, &NEVER, Status::Ok, log)?;
+    }
     Ok(())
 }

@@ -9,7 +9,6 @@ pub loop-rest-init : goal.loop-rest-init
 loop-rest-init g c = record {
   so_far = at_start _ _ c.args.session.now c.requires.opening;
   whole = c.requires.whole;
-  made = omega (arith, c.requires.unmade);
   frames = omega (arith, c.requires.opening.frames);
   numbered = omega arith;
   faults = omega arith;
@@ -23,7 +22,6 @@ loop-rest-preserved g c =
     record {
       so_far = one_line _ _ _ _ c.loop-rest.session c.carry_out.new.self c.loop-rest.number c.loop-rest.rest.now c.read_line.result c.first_line.result.1.now some line c.first_line.ensures.rest so_far.so_far c.in-Ok.ensures.carries;
       whole = c.carry_out.ensures.whole;
-      made = omega (arith, so_far.made, c.carry_out.ensures.made);
       frames = omega (arith, so_far.frames, c.carry_out.ensures.frames);
       numbered = omega (arith, so_far.numbered, c.first_line.ensures.shorter some);
       faults = omega (arith, so_far.faults, c.carry_out.ensures.cause.later);

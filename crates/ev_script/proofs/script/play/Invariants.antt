@@ -10,7 +10,6 @@ invariant-loop-rest g l = record {
       (outside (g.K.Sink.written l.fn.sink) (g.P.Screen.shown l.fn.screen) (g.P.Screen.faults l.fn.screen))
       (outside (g.K.Sink.written l.sink) (g.P.Screen.shown l.screen) (g.P.Screen.faults l.screen)) l.session l.number l.rest;
   whole : HasWhole l.session;
-  made : l.session.scene.made + 1 ≤ l.number;
   frames : l.session.frames + 1 ≤ l.number;
   numbered : l.number + length l.rest ≤ length l.script + 1;
   faults : g.K.Sink.faults l.fn.sink ≤ g.K.Sink.faults l.sink;

@@ -1,4 +1,4 @@
-use Rattle.std.proofs.Common.{◌≡◌, ap}
+use Rattle.std.proofs.Common.{ap}
 use Rattle.ev_scene.proofs.Finding.{added_to}
 use Rattle.ev_scene.proofs.roll.Roll.add.Goals as goal
 

@@ -1,5 +1,4 @@
-use Rattle.std.proofs.Common.{◌≡◌, true, Some, None, is_some, ap, sym, ◌∙◌}
-use Rattle.std.proofs.lemmas.Option.{none-some}
+use Rattle.std.proofs.Common.{◌≡◌, true, Some, is_some, ap, sym, ◌∙◌}
 use Rattle.std.proofs.Math.Bool.{true≢false}
 use Rattle.ev_scene.specs.Slots.{of_id}
 use Rattle.ev_scene.specs.Change.{apply}

@@ -1,4 +1,4 @@
-use Rattle.std.proofs.Common.{◌≡◌, length, sym, ap, ◌∙◌}
+use Rattle.std.proofs.Common.{length, sym, ap, ◌∙◌}
 use Rattle.ev_scene.specs.Slots.{live, value_of}
 use Rattle.ev_scene.specs.Board.{values_of}
 use Rattle.ev_scene.proofs.Places.{live_map}

@@ -1,6 +1,4 @@
-use Rattle.std.proofs.Common.{◌≡◌, ap, sym, ◌∙◌, subst, Some, None, option_copied}
-use Rattle.ev_scene.specs.Slots.{of_id}
-use Rattle.ev_scene.specs.Board.{named, values_of}
+use Rattle.std.proofs.Common.{ap, ◌∙◌}
 use Rattle.ev_scene.proofs.Finding.{led_to, led_nowhere, stands_there}
 use Rattle.ev_scene.proofs.roll.Roll.named.Goals as goal
 

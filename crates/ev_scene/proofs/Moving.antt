@@ -1,0 +1,107 @@
+-- What a move answers.
+use Rattle.std.proofs.Common.{◌≡◌, ℕ, ℤ, ◌+◌, ◌≤◌, ◌+ℤ◌, ◌-ℤ◌, Bool, true, false, ◌&&◌, List, length, Option, Some, None, Result, Ok, Err, OnOk, IfErr, if◌then◌else◌, FitsSigned, w64, to_z, of_z, refl, sym, ap, ap₂, ◌∙◌, subst, arith}
+use Rattle.std.specs.List.{cons_option, list_all}
+use Rattle.std.specs.Option.{option_map, option_map_or}
+use Rattle.std.specs.Result.{IsErrAnd}
+use Rattle.std.proofs.lemmas.Int.{ints, to_z-of_z}
+use Rattle.std.proofs.lemmas.Option.{none-some, same_Some}
+use Rattle.ev_geom.specs.Area.{is_place}
+use Rattle.ev_model.specs.Up.{is_smart}
+use Rattle.ev_model.specs.declared.object.Object.{Object}
+use Rattle.ev_model.specs.declared.refusal.Refusal.{Refusal}
+use Rattle.ev_model.specs.declared.refusal.Refusal.TheVariants as refusal
+use Rattle.ev_scene.specs.Slots.{of_id, put}
+use Rattle.ev_scene.specs.Board.{Board, inside, named}
+use Rattle.ev_scene.specs.Change.{apply}
+use Rattle.ev_scene.specs.Edits.{Answers, Refuses, unless, known, with_named, move_verdict, moved, may_shift, shifted_all, objects_in, changed}
+use Rattle.ev_scene.specs.declared.change.Change.{Change}
+use Rattle.ev_scene.specs.declared.change.Change.TheVariants as change
+use Rattle.ev_scene.proofs.Verdicts.{wanting, changed_is}
+
+-- a test that was made, and what it gave
+pub passed : {A : Type 0} (test : Bool) (given made : A) → Some given ≡ (if test then Some made else None) → (test ≡ true) × (given ≡ made)
+passed true given made e = (refl, same_Some _ _ e)
+passed false given made e = absurd (none-some given (sym e))
+
+pub not_passed : {A : Type 0} (test : Bool) (made : A) → None ≡ (if test then Some made else None) → test ≡ false
+not_passed true made e = absurd (none-some made e)
+not_passed false made e = refl
+
+-- numbers that went through a call
+pub told_places : (x y : ℤ) → FitsSigned w64 x → FitsSigned w64 y → (is_place x && is_place y) ≡ (is_place (to_z w64 (of_z w64 x)) && is_place (to_z w64 (of_z w64 y)))
+told_places x y fx fy = sym (ap₂ (λ x y. is_place x && is_place y) (to_z-of_z w64 x fx) (to_z-of_z w64 y fy))
+
+pub told_place : (x y : ℤ) → FitsSigned w64 x → FitsSigned w64 y → change.Place (to_z w64 (of_z w64 x)) (to_z w64 (of_z w64 y)) ≡ change.Place x y
+told_place x y fx fy = ap₂ change.Place (to_z-of_z w64 x fx) (to_z-of_z w64 y fy)
+
+there_and_back : (at to : ℤ) → at +ℤ (to -ℤ at) ≡ to
+there_and_back at to = omega (arith, ints)
+
+module _ (board : Board) (name : List ℕ) (o : Object) (is : Some o ≡ named board.objects name) (x y : ℤ) where
+  abbrev verdict : Option Refusal
+  verdict = known board name (move_verdict x y board)
+
+  abbrev after : Board
+  after = with_named board name (moved x y board)
+
+  verdict_is : verdict ≡ move_verdict x y board o
+  verdict_is = ap (λ found. option_map_or (move_verdict x y board) found (Some refusal.Unknown)) (sym is)
+
+  after_is : after ≡ moved x y board o
+  after_is = ap (λ found. option_map_or (moved x y board) found board) (sym is)
+
+  -- where the numbers are no places, the object itself has none
+  pub no_place : of_id board.objects o.id ≡ Some o → (is_place x && is_place y) ≡ false → Refuses verdict refusal.Range
+  no_place there fails = subst (λ verdict. Refuses verdict refusal.Range) (sym (verdict_is ∙ ap (λ b. unless b refusal.Range) (go (is_smart o)))) refl where
+    itself : may_shift (x -ℤ o.rect.x) (y -ℤ o.rect.y) o ≡ false
+    itself = ap₂ (λ x y. is_place x && is_place y) (there_and_back o.rect.x x) (there_and_back o.rect.y y) ∙ fails
+
+    all : (rest : List Object) → list_all (may_shift (x -ℤ o.rect.x) (y -ℤ o.rect.y)) (cons_option (of_id board.objects o.id) rest) ≡ false
+    all rest = ap (λ slot. list_all (may_shift (x -ℤ o.rect.x) (y -ℤ o.rect.y)) (cons_option slot rest)) there ∙ ap (λ b. b && list_all (may_shift (x -ℤ o.rect.x) (y -ℤ o.rect.y)) rest) itself
+
+    go : (b : Bool) → (if b then list_all (may_shift (x -ℤ o.rect.x) (y -ℤ o.rect.y)) (objects_in board o) else is_place x && is_place y) ≡ false
+    go true = all _
+    go false = fails
+
+  -- a smart object
+  pub group_answers : of_id board.objects o.id ≡ Some o → is_smart o ≡ true → (dx dy : ℤ) → dx ≡ x -ℤ o.rect.x → dy ≡ y -ℤ o.rect.y → (result : Result (Unit {0}) Refusal) (new : Board)
+      → OnOk result ((p : Object) → of_id board.objects o.id ≡ Some p → (list_all (may_shift dx dy) (objects_in board p) ≡ true) × (new ≡ shifted_all dx dy board p))
+      → IfErr result (λ cause. (p : Object) → of_id board.objects o.id ≡ Some p → Refuses (unless (list_all (may_shift dx dy) (objects_in board p)) refusal.Range) cause × (new ≡ board))
+      → Answers verdict board after result new
+  group_answers there smart dx dy ex ey result new = go result where
+    its_verdict : verdict ≡ unless (list_all (may_shift dx dy) (objects_in board o)) refusal.Range
+    its_verdict =
+        verdict_is ∙ ap (λ b. unless (if b then list_all (may_shift (x -ℤ o.rect.x) (y -ℤ o.rect.y)) (objects_in board o) else is_place x && is_place y) refusal.Range) smart
+        ∙ sym (ap₂ (λ dx dy. unless (list_all (may_shift dx dy) (objects_in board o)) refusal.Range) ex ey)
+
+    its_after : after ≡ shifted_all dx dy board o
+    its_after =
+        after_is ∙ ap (λ b. if b then shifted_all (x -ℤ o.rect.x) (y -ℤ o.rect.y) board o else changed (change.Place x y) board o) smart
+        ∙ sym (ap₂ (λ dx dy. shifted_all dx dy board o) ex ey)
+
+    go : (result : Result (Unit {0}) Refusal) → OnOk result ((p : Object) → of_id board.objects o.id ≡ Some p → (list_all (may_shift dx dy) (objects_in board p) ≡ true) × (new ≡ shifted_all dx dy board p))
+        → IfErr result (λ cause. (p : Object) → of_id board.objects o.id ≡ Some p → Refuses (unless (list_all (may_shift dx dy) (objects_in board p)) refusal.Range) cause × (new ≡ board))
+        → Answers verdict board after result new
+    go (Ok done) ok err = let said = ok o there in (its_verdict ∙ ap (λ b. unless b refusal.Range) said.0, said.1 ∙ sym its_after)
+    go (Err cause) ok err = let said = err o there in (subst (λ verdict. Refuses verdict cause) (sym its_verdict) said.0, said.1)
+
+  pub group_made : (made made' : ℕ) → made' ≤ made + length (inside board o) → made' ≤ made + option_map_or (λ o. length (inside board o)) (named board.objects name) 1
+  group_made made made' few = subst (λ found. made' ≤ made + option_map_or (λ o. length (inside board o)) found 1) is few
+
+  -- another object
+  module _ (plain : is_smart o ≡ false) (places : (is_place x && is_place y) ≡ true) where
+    one_verdict : verdict ≡ None
+    one_verdict =
+        verdict_is ∙ ap (λ b. unless (if b then list_all (may_shift (x -ℤ o.rect.x) (y -ℤ o.rect.y)) (objects_in board o) else is_place x && is_place y) refusal.Range) plain
+        ∙ ap (λ b. unless b refusal.Range) places
+
+    pub one_answers : (c : Change) (objects : List (Option Object)) → c ≡ change.Place x y → of_id board.objects o.id ≡ Some o → objects ≡ put board.objects o.id (option_map (apply c) (of_id board.objects o.id))
+        → (verdict ≡ None) × (record board { objects = objects } ≡ after)
+    one_answers c objects e there f = (
+      one_verdict,
+      changed_is board o c objects there f ∙ ap (λ c. changed c board o) e
+          ∙ sym (after_is ∙ ap (λ b. if b then shifted_all (x -ℤ o.rect.x) (y -ℤ o.rect.y) board o else changed (change.Place x y) board o) plain),
+    )
+
+    pub one_refused : (result : Result (Unit {0}) Refusal) (new : Board) → IsErrAnd result (λ cause. cause ≡ refusal.NoMemory) → new ≡ board → Answers verdict board after result new
+    one_refused result new = wanting verdict board after new result one_verdict

@@ -1,0 +1,132 @@
+-- Whether all that stands inside an object may move.
+use Rattle.std.proofs.Common.{◌≡◌, ℕ, zero, suc, ℤ, ◌+◌, ◌-◌, ◌<◌, ◌≤◌, Bool, true, false, ◌&&◌, List, [], ◌∷◌, length, map, filter_map, Option, Some, None, is_some, FitsSigned, w64, to_z, of_z, if◌then◌else◌, refl, sym, ap, ap₂, ◌∙◌, subst, inl, inr, arith}
+use Rattle.std.specs.FinMap.{get}
+use Rattle.std.specs.List.{list_all}
+use Rattle.std.specs.Option.{option_map, option_to_list}
+use Rattle.std.proofs.Math.Bool.{true≢false}
+use Rattle.std.proofs.lemmas.Bool.Decides.{eqb_tells}
+use Rattle.std.proofs.lemmas.Int.{to_z-of_z}
+use Rattle.std.proofs.lemmas.List.{length-map}
+use Rattle.std.proofs.lemmas.Option.{same_Some}
+use Rattle.ev_state.specs.Held.{Held}
+use Rattle.ev_model.specs.Up.{is_smart}
+use Rattle.ev_model.specs.declared.object.Object.{Object}
+use Rattle.ev_model.specs.declared.refusal.Refusal.TheVariants as refusal
+use Rattle.ev_links.specs.Ties.{Ties, Has, has, is_inside, IsSound}
+use Rattle.ev_links.proofs.Ways.{has-Has}
+use Rattle.ev_scene.specs.Slots.{of_id, spread}
+use Rattle.ev_scene.specs.Board.{Board, inside, values_of}
+use Rattle.ev_scene.specs.Edits.{Refuses, unless, may_shift, shifted_by, shifted_all, objects_in}
+use Rattle.ev_scene.specs.Whole.{IsWhole}
+use Rattle.ev_scene.proofs.Places.{id_high}
+use Rattle.ev_scene.proofs.Shifting.{cons_passes, shifted_values}
+use Rattle.ev_scene.proofs.Trees.{inside_is}
+
+-- numbers that went through a call
+module _ (dx dy : ℤ) (fx : FitsSigned w64 dx) (fy : FitsSigned w64 dy) where
+  pub told_may : (objects : List Object) (r : Bool) → r ≡ list_all (may_shift (to_z w64 (of_z w64 dx)) (to_z w64 (of_z w64 dy))) objects → list_all (may_shift dx dy) objects ≡ r
+  told_may objects r e = sym (e ∙ ap₂ (λ dx dy. list_all (may_shift dx dy) objects) (to_z-of_z w64 dx fx) (to_z-of_z w64 dy fy))
+
+  pub told_states : (objects made : List Object) → made ≡ map (shifted_by (to_z w64 (of_z w64 dx)) (to_z w64 (of_z w64 dy))) objects → made ≡ map (shifted_by dx dy) objects
+  told_states objects made e = e ∙ ap₂ (λ dx dy. map (shifted_by dx dy) objects) (to_z-of_z w64 dx fx) (to_z-of_z w64 dy fy)
+
+module _ {A : Type 0} (test : A → Bool) (find : ℕ → Option A) where
+  -- one fails
+  fails_in : (ids : List ℕ) (x : ℕ) → has ids x ≡ true → list_all test (option_to_list (find x)) ≡ false → list_all test (filter_map find ids) ≡ false
+  fails_in [] x h fails = absurd (true≢false (sym h))
+  fails_in (y ∷ ids) x h fails = cons_passes test (find y) (filter_map find ids) ∙ elim (eqb_tells y x) [
+    | inl same ↦ ap (λ b. b && list_all test (filter_map find ids)) (ap (λ y. list_all test (option_to_list (find y))) same.1 ∙ fails)
+    | inr differ ↦ ap (λ b. list_all test (option_to_list (find y)) && b) (fails_in ids x (rw differ.0 at h) fails) ∙ never (list_all test (option_to_list (find y)))
+  ] where
+    never : (b : Bool) → (b && false) ≡ false
+    never true = refl
+    never false = refl
+
+  -- none fails
+  all_pass : (ids : List ℕ) → ((x : ℕ) → Has x ids → list_all test (option_to_list (find x)) ≡ true) → list_all test (filter_map find ids) ≡ true
+  all_pass [] pass = refl
+  all_pass (y ∷ ids) pass = cons_passes test (find y) (filter_map find ids) ∙ ap₂ ◌&&◌ (pass y (inl refl)) (all_pass ids (λ x h. pass x (inr h)))
+
+-- what is there up to an id and stands inside an object may move
+abbrev pub MayBelow : ℤ → ℤ → List (Option Object) → Ties → ℕ → ℕ → Type 0
+MayBelow dx dy objects ties id n = (x : ℕ) → x < n → is_inside ties x id ≡ true → list_all (may_shift dx dy) (option_to_list (of_id objects x)) ≡ true
+
+pub may_first : (dx dy : ℤ) (objects : List (Option Object)) (ties : Ties) (id : ℕ) → MayBelow dx dy objects ties id 1
+may_first dx dy objects ties id zero low h = refl
+may_first dx dy objects ties id (suc x) low h = absurd (omega (arith, low))
+
+pub may_next : (dx dy : ℤ) (objects : List (Option Object)) (ties : Ties) (id n : ℕ) → MayBelow dx dy objects ties id n → (is_inside ties n id ≡ true → list_all (may_shift dx dy) (option_to_list (of_id objects n)) ≡ true)
+    → MayBelow dx dy objects ties id (n + 1)
+may_next dx dy objects ties id n before here x low h =
+    elim (eqb_tells x n) [
+      | inl same ↦ ap (λ x. list_all (may_shift dx dy) (option_to_list (of_id objects x))) same.1 ∙ here (ap (λ x. is_inside ties x id) (sym same.1) ∙ h)
+      | inr differ ↦ let other = differ.1 in before x (grind (arith, low, other)) h
+    ]
+
+pub told_below : (dx dy : ℤ) → FitsSigned w64 dx → FitsSigned w64 dy → (objects : List (Option Object)) (ties : Ties) (id n : ℕ) → MayBelow (to_z w64 (of_z w64 dx)) (to_z w64 (of_z w64 dy)) objects ties id n → MayBelow dx dy objects ties id n
+told_below dx dy fx fy objects ties id n may x low within = told_may dx dy fx fy (option_to_list (of_id objects x)) true (sym (may x low within))
+
+-- each id that was given lies below the next one
+pub all_below : (states : List (Option (Held Object))) (next n : ℕ) → next ≡ length states + 1 → next ≤ n → length (values_of states) + 1 ≤ n
+all_below states next n e past = let same : length (values_of states) ≡ length states = length-map states _ in omega (arith, e, past, same)
+
+module _ (w h : ℕ) (objects : List (Option Object)) (groups : List (List (ℕ × ℤ))) (ties : Ties) (whole : IsWhole w h objects groups ties) where
+  abbrev board : Board
+  board = record { w = w; h = h; objects = objects; groups = groups }
+
+  module _ (dx dy : ℤ) (id : ℕ) (o : Object) (there : of_id objects id ≡ Some o) where
+    stands_there : of_id objects o.id ≡ Some o
+    stands_there = ap (of_id objects) (whole.own id o there) ∙ there
+
+    module _ (sound : IsSound (get ties)) where
+      one_may_not : (x : ℕ) → is_inside ties x id ≡ true → list_all (may_shift dx dy) (option_to_list (of_id objects x)) ≡ false → list_all (may_shift dx dy) (objects_in board o) ≡ false
+      one_may_not x within fails = fails_in (may_shift dx dy) (of_id objects) (inside board o) x
+          (inside_is w h objects groups ties whole sound o stands_there x (is_there (of_id objects x) fails) ∙ ap (is_inside ties x) (whole.own id o there) ∙ within) fails
+        where
+          is_there : (slot : Option Object) → list_all (may_shift dx dy) (option_to_list slot) ≡ false → is_some slot ≡ true
+          is_there None e = absurd (true≢false e)
+          is_there (Some p) e = refl
+
+      pub refused_range : (x : ℕ) → is_inside ties x id ≡ true → list_all (may_shift dx dy) (option_to_list (of_id objects x)) ≡ false → Refuses (unless (list_all (may_shift dx dy) (objects_in board o)) refusal.Range) refusal.Range
+      refused_range x within fails = subst (λ b. Refuses (unless b refusal.Range) refusal.Range) (sym (one_may_not x within fails)) refl
+
+      all_may : (n : ℕ) → length objects + 1 ≤ n → MayBelow dx dy objects ties id n → list_all (may_shift dx dy) (objects_in board o) ≡ true
+      all_may n e may = all_pass (may_shift dx dy) (of_id objects) (inside board o) one where
+        one : (x : ℕ) → Has x (inside board o) → list_all (may_shift dx dy) (option_to_list (of_id objects x)) ≡ true
+        one x has_it = go (of_id objects x) refl where
+          go : (slot : Option Object) → of_id objects x ≡ slot → list_all (may_shift dx dy) (option_to_list slot) ≡ true
+          go None f = refl
+          go (Some p) f =
+              let high : x - 1 < length objects = id_high objects x p f in
+              let low : x < n = omega (arith, high, e) in
+              let within : is_inside ties x id ≡ true = ap (is_inside ties x) (sym (whole.own id o there)) ∙ sym (inside_is w h objects groups ties whole sound o stands_there x (ap is_some f)) ∙ has-Has (inside board o) x has_it in
+              ap (λ slot. list_all (may_shift dx dy) (option_to_list slot)) (sym f) ∙ may x low within
+
+      pub refused_memory : (n : ℕ) → length objects + 1 ≤ n → MayBelow dx dy objects ties id n → Refuses (unless (list_all (may_shift dx dy) (objects_in board o)) refusal.Range) refusal.NoMemory
+      refused_memory n e may = subst (λ b. Refuses (unless b refusal.Range) refusal.NoMemory) (sym (all_may n e may)) refl
+
+  -- the ids of what stands inside a smart object
+  module _ (dx dy : ℤ) (id : ℕ) (ids : List ℕ) (found : (o : Object) → o.id ≡ id → is_smart o ≡ true → ids ≡ inside board o) (known : (o : Object) × (of_id objects id ≡ Some o) × (is_smart o ≡ true)) where
+    ids_are : (o : Object) → of_id objects id ≡ Some o → ids ≡ inside board o
+    ids_are o there = found o (whole.own id o there) (subst (λ o. is_smart o ≡ true) (same_Some known.0 o (sym known.1 ∙ there)) known.2)
+
+    same_test : (o : Object) → of_id objects id ≡ Some o → list_all (may_shift dx dy) (objects_in board o) ≡ list_all (may_shift dx dy) (filter_map (of_id objects) ids)
+    same_test o there = ap (λ ids. list_all (may_shift dx dy) (filter_map (of_id objects) ids)) (sym (ids_are o there))
+
+    pub group_stays : list_all (may_shift dx dy) (filter_map (of_id objects) ids) ≡ false → (o : Object) → of_id objects id ≡ Some o → Refuses (unless (list_all (may_shift dx dy) (objects_in board o)) refusal.Range) refusal.Range
+    group_stays e o there = subst (λ b. Refuses (unless b refusal.Range) refusal.Range) (sym (same_test o there ∙ e)) refl
+
+    pub group_moves : (objects' : List (Option Object)) → list_all (may_shift dx dy) (filter_map (of_id objects) ids) ≡ true → objects' ≡ spread (map (shifted_by dx dy) (filter_map (of_id objects) ids)) objects
+        → (o : Object) → of_id objects id ≡ Some o → (list_all (may_shift dx dy) (objects_in board o) ≡ true) × (record board { objects = objects' } ≡ shifted_all dx dy board o)
+    group_moves objects' e f o there = (
+      same_test o there ∙ e,
+      ap (λ objects. record board { objects = objects }) (f ∙ shifted_values w h objects groups ties whole dx dy ids
+          ∙ ap (λ ids. map (λ slot. option_map (λ p. if has ids p.id then shifted_by dx dy p else p) slot) objects) (ids_are o there)),
+    )
+
+    pub as_many : (o : Object) → of_id objects id ≡ Some o → length ids ≡ length (inside board o)
+    as_many o there = ap length (ids_are o there)
+
+-- new states in place of the old ones
+pub spread_is : (states states' : List (Option (Held Object))) (made all : List Object) (objects : List (Option Object)) → states' ≡ states → made ≡ all → objects ≡ spread made (values_of states') → objects ≡ spread all (values_of states)
+spread_is states states' made all objects same e f = f ∙ ap₂ spread e (ap values_of same)

@@ -1,0 +1,216 @@
+-- What an object clips, and what is made of it when the object goes.
+use Rattle.std.proofs.Common.{◌≡◌, ℕ, zero, suc, ℤ, ◌<◌, ◌≤◌, ◌+◌, Bool, true, false, ◌==◌, ◌||◌, ◌&&◌, if◌then◌else◌, List, [], ◌∷◌, ◌++◌, length, map, filter, filter_map, option_to_list, Option, Some, None, All, inl, inr, refl, sym, subst, ap, ◌∙◌, arith}
+use Rattle.std.specs.FinMap.{get}
+use Rattle.std.specs.List.{cons_option}
+use Rattle.std.specs.Option.{option_map, option_and_then, option_map_or}
+use Rattle.std.proofs.Math.Bool.{true≢false}
+use Rattle.std.proofs.lemmas.Bool.Decides.{nat_tests, eqb_tells}
+use Rattle.std.proofs.lemmas.Option.{none-some, same_Some}
+use Rattle.std.proofs.lemmas.List.{map-append, length-append, append_assoc, append-nil}
+use Rattle.std.proofs.lemmas.List.Elements.{filter-append, All-filter, All-map}
+use Rattle.ev_state.specs.Held.{Held}
+use Rattle.ev_model.specs.Up.{is_clipped_by}
+use Rattle.ev_model.specs.declared.object.Object.{Object}
+use Rattle.ev_stack.specs.Order.{layer_in, ids_of, ids_above, ids_from}
+use Rattle.ev_groups.specs.Groups.{group, siblings}
+use Rattle.ev_links.specs.Ties.{Ties, clipper_at, parent_at, has, IsSound, Counts}
+use Rattle.ev_links.proofs.Counts.{Counts-none}
+use Rattle.ev_scene.specs.Slots.{of_id, spread, value_of}
+use Rattle.ev_scene.specs.Board.{Board, values_of}
+use Rattle.ev_scene.specs.Change.{apply}
+use Rattle.ev_scene.specs.Edits.{clipped_by}
+use Rattle.ev_scene.specs.Roll.{name_at, IsStateOf}
+use Rattle.ev_scene.specs.Ties.{tie_of}
+use Rattle.ev_scene.specs.Whole.{IsWhole}
+use Rattle.ev_scene.specs.declared.change.Change.TheVariants as change
+use Rattle.ev_scene.proofs.Places.{of_id_map}
+use Rattle.ev_scene.proofs.Standing.{stands_in}
+use Rattle.ev_scene.proofs.Spreading.{spread_at, listed_stand, has_listed}
+
+module _ (find : ℕ → Option Object) (test : Object → Bool) where
+  abbrev chosen : List ℕ → List Object
+  chosen ids = filter test (filter_map find ids)
+
+  abbrev chosen_one : ℕ → List Object
+  chosen_one id = filter test (option_to_list (find id))
+
+  chosen_first : (id : ℕ) (ids : List ℕ) → chosen (id ∷ ids) ≡ chosen_one id ++ chosen ids
+  chosen_first id ids = go (find id)
+    where
+      go : (f : Option Object) → filter test (cons_option f (filter_map find ids)) ≡ filter test (option_to_list f) ++ filter test (filter_map find ids)
+      go None = refl
+      go (Some o) = filter-append test (o ∷ []) (filter_map find ids)
+
+  -- one more of them
+  pub chosen_more : (change : Object → Object) (id : ℕ) (ids : List ℕ) (now new end : List Object) → new ≡ now ++ map change (chosen_one id) → now ++ map change (chosen (id ∷ ids)) ≡ end → new ++ map change (chosen ids) ≡ end
+  chosen_more change id ids now new end is so_far =
+      ap (λ xs. xs ++ map change (chosen ids)) is ∙ append_assoc now (map change (chosen_one id)) (map change (chosen ids))
+      ∙ ap (λ xs. now ++ xs) (sym (map-append change (chosen_one id) (chosen ids)) ∙ ap (map change) (sym (chosen_first id ids))) ∙ so_far
+
+  pub length-chosen : (id : ℕ) (ids : List ℕ) → length (chosen (id ∷ ids)) ≡ length (chosen_one id) + length (chosen ids)
+  length-chosen id ids = ap length (chosen_first id ids) ∙ length-append (chosen_one id) (chosen ids)
+
+-- the same along siblings
+module _ (objects : List (Option Object)) (group : List (ℕ × ℤ)) (id : ℕ) (at at' : Option ℕ) (sibling : ℕ) (objects' : List (Option Object))
+    (same : objects' ≡ objects) (here : at ≡ Some sibling) (next : ids_from group at' ≡ ids_above group sibling) where
+  abbrev clipped_from : Option ℕ → List Object
+  clipped_from at = filter (is_clipped_by id) (filter_map (of_id objects) (ids_from group at))
+
+  pub next_states : (now new end : List Object) → new ≡ now ++ map (apply (change.Clip None)) (filter (is_clipped_by id) (option_to_list (of_id objects' sibling)))
+      → now ++ map (apply (change.Clip None)) (clipped_from at) ≡ end → new ++ map (apply (change.Clip None)) (clipped_from at') ≡ end
+  next_states now new end is so_far =
+      ap (λ ids. new ++ map (apply (change.Clip None)) (filter (is_clipped_by id) (filter_map (of_id objects) ids))) next
+      ∙ chosen_more (of_id objects) (is_clipped_by id) (apply (change.Clip None)) sibling (ids_above group sibling) now new end
+      (is ∙ ap (λ objects. now ++ map (apply (change.Clip None)) (filter (is_clipped_by id) (option_to_list (of_id objects sibling)))) same)
+      (sym (ap (λ at. now ++ map (apply (change.Clip None)) (clipped_from at)) here) ∙ so_far)
+
+  first_length : length (clipped_from at) ≡ length (filter (is_clipped_by id) (option_to_list (of_id objects' sibling))) + length (filter (is_clipped_by id) (filter_map (of_id objects) (ids_above group sibling)))
+  first_length = ap (λ at. length (clipped_from at)) here ∙ length-chosen (of_id objects) (is_clipped_by id) sibling (ids_above group sibling)
+      ∙ ap (λ objects'. length (filter (is_clipped_by id) (option_to_list (of_id objects' sibling))) + length (filter (is_clipped_by id) (filter_map (of_id objects) (ids_above group sibling)))) (sym same)
+
+  pub next_made : (now new end : ℕ) → new ≤ now + length (filter (is_clipped_by id) (option_to_list (of_id objects' sibling))) → now + length (clipped_from at) ≤ end → new + length (clipped_from at') ≤ end
+  next_made now new end is so_far =
+      let first = first_length in
+      let rest : length (clipped_from at') ≡ length (filter (is_clipped_by id) (filter_map (of_id objects) (ids_above group sibling))) = ap (λ ids. length (filter (is_clipped_by id) (filter_map (of_id objects) ids))) next in
+      omega (arith, first, rest, is, so_far)
+
+  pub next_fewer : length (ids_from group at') < length (ids_from group at)
+  next_fewer =
+      let more : length (ids_from group at) ≡ suc (length (ids_above group sibling)) = ap (λ at. length (ids_from group at)) here in
+      let rest : length (ids_from group at') ≡ length (ids_above group sibling) = ap length next in
+      omega (arith, more, rest)
+
+-- where there is no room for the next
+pub stopped_made : (objects : List (Option Object)) (group : List (ℕ × ℤ)) (id : ℕ) (at : Option ℕ) (sibling : ℕ) (objects' : List (Option Object)) → objects' ≡ objects → at ≡ Some sibling
+    → (now new end : ℕ) → new ≤ now + length (filter (is_clipped_by id) (option_to_list (of_id objects' sibling))) → now + length (filter (is_clipped_by id) (filter_map (of_id objects) (ids_from group at))) ≤ end → new ≤ end
+stopped_made objects group id at sibling objects' same here now new end is so_far =
+    let first = ap (λ at. length (filter (is_clipped_by id) (filter_map (of_id objects) (ids_from group at)))) here ∙ length-chosen (of_id objects) (is_clipped_by id) sibling (ids_above group sibling) in
+    let one : new ≤ now + length (filter (is_clipped_by id) (option_to_list (of_id objects sibling))) = subst (λ objects. new ≤ now + length (filter (is_clipped_by id) (option_to_list (of_id objects sibling)))) same is in
+    omega (arith, first, one, so_far)
+
+-- and at the end
+pub all_states : (objects : List (Option Object)) (group : List (ℕ × ℤ)) (id : ℕ) (at : Option ℕ) → at ≡ None → (now end : List Object)
+    → now ++ map (apply (change.Clip None)) (filter (is_clipped_by id) (filter_map (of_id objects) (ids_from group at))) ≡ end → now ≡ end
+all_states objects group id at over now end so_far =
+    sym (append-nil now) ∙ sym (ap (λ at. now ++ map (apply (change.Clip None)) (filter (is_clipped_by id) (filter_map (of_id objects) (ids_from group at)))) over) ∙ so_far
+
+-- ---- the scene with them
+
+-- who has a layer is one of the siblings
+has_sibling : (xs : List (ℕ × ℤ)) (id : ℕ) (layer : ℤ) → layer_in xs id ≡ Some layer → has (ids_of xs) id ≡ true
+has_sibling [] id layer e = absurd (none-some layer e)
+has_sibling (one ∷ xs) id layer e = elim (eqb_tells one.0 id) [ inl same ↦ rw same.0 refl | inr differ ↦ rw differ.0 (has_sibling xs id layer (rw differ.0 at e)) ]
+
+clipper_of : (id : ℕ) (p : Object) → is_clipped_by id p ≡ true → p.clipper ≡ Some id
+clipper_of id p e = go p.clipper e
+  where
+    go : (c : Option ℕ) → option_map_or (λ clipper. clipper == id) c false ≡ true → c ≡ Some id
+    go None e = absurd (true≢false (sym e))
+    go (Some c) e = ap Some (let same : c ≡ id = grind (arith, nat_tests, e) in same)
+
+-- those of them that pass a test
+has_chosen : (slots : List (Option Object)) (test : Object → Bool) (q : ℕ) (p : Object) → of_id slots q ≡ Some p → (objects : List Object) → All (λ o. of_id slots o.id ≡ Some o) objects
+    → has (map (λ o. o.id) (filter test objects)) q ≡ (has (map (λ o. o.id) objects) q && test p)
+has_chosen slots test q p there [] stand = refl
+has_chosen slots test q p there (u ∷ objects) stand = go (test u) refl (has_chosen slots test q p there objects (λ k d h. stand (suc k) d (omega (arith, h))))
+  where
+    both : (a b : Bool) → (a || a && b) ≡ a
+    both true b = refl
+    both false b = refl
+
+    go : (t : Bool) → test u ≡ t → has (map (λ o. o.id) (filter test objects)) q ≡ (has (map (λ o. o.id) objects) q && test p)
+        → has (map (λ o. o.id) (if t then u ∷ filter test objects else filter test objects)) q ≡ ((u.id == q || has (map (λ o. o.id) objects) q) && test p)
+    go true f later = elim (eqb_tells u.id q) [
+      | inl same ↦ rw same.0 (sym (ap test (same_Some _ _ (sym there ∙ sym (ap (of_id slots) same.1) ∙ stand 0 u (omega arith))) ∙ f))
+      | inr differ ↦ rw differ.0 later
+    ]
+    go false f later = elim (eqb_tells u.id q) [
+      | inl same ↦
+          let fails : test p ≡ false = ap test (same_Some _ _ (sym there ∙ sym (ap (of_id slots) same.1) ∙ stand 0 u (omega arith))) ∙ f in
+          later ∙ ap (λ b. has (map (λ o. o.id) objects) q && b) fails ∙ and_false (has (map (λ o. o.id) objects) q) ∙ sym (rw same.0 fails)
+      | inr differ ↦ rw differ.0 later
+    ]
+      where
+        and_false : (b : Bool) → (b && false) ≡ false
+        and_false true = refl
+        and_false false = refl
+
+-- an object without this clipper
+abbrev pub unclipped : ℕ → Object → Object
+unclipped id p = if is_clipped_by id p then apply (change.Clip None) p else p
+
+module _ (w h : ℕ) (objects : List (Option Object)) (groups : List (List (ℕ × ℤ))) (ties : Ties) (whole : IsWhole w h objects groups ties) where
+  clipper_is : (id : ℕ) (p : Object) → of_id objects id ≡ Some p → clipper_at (get ties) id ≡ p.clipper
+  clipper_is id p there = ap (option_and_then (λ tie. tie.clipper)) (whole.tied id ∙ ap (option_map tie_of) there)
+
+  parent_is : (id : ℕ) (p : Object) → of_id objects id ≡ Some p → parent_at (get ties) id ≡ p.parent
+  parent_is id p there = ap (option_and_then (λ tie. tie.parent)) (whole.tied id ∙ ap (option_map tie_of) there)
+
+  -- what counts none clips nobody
+  none_clipped : (id n : ℕ) → Counts (clipper_at (get ties)) id n → n ≡ 0 → (ids : List ℕ) → filter (is_clipped_by id) (filter_map (of_id objects) ids) ≡ []
+  none_clipped id n counts none [] = refl
+  none_clipped id n counts none (x ∷ ids) = go (of_id objects x) refl (none_clipped id n counts none ids)
+    where
+      go : (f : Option Object) → of_id objects x ≡ f → filter (is_clipped_by id) (filter_map (of_id objects) ids) ≡ [] → filter (is_clipped_by id) (cons_option f (filter_map (of_id objects) ids)) ≡ []
+      go None e later = later
+      go (Some p) e later = pick (is_clipped_by id p) refl
+        where
+          pick : (b : Bool) → is_clipped_by id p ≡ b → (if b then p ∷ filter (is_clipped_by id) (filter_map (of_id objects) ids) else filter (is_clipped_by id) (filter_map (of_id objects) ids)) ≡ []
+          pick true f = absurd (Counts-none (clipper_at (get ties)) id (subst (Counts (clipper_at (get ties)) id) none counts) x (clipper_is x p e ∙ clipper_of id p f))
+          pick false f = later
+
+  pub none_clipped_by : (id n : ℕ) → Counts (clipper_at (get ties)) id n → n ≡ 0 → (o : Object) → of_id objects id ≡ Some o → clipped_by (record { w = w; h = h; objects = objects; groups = groups }) o ≡ []
+  none_clipped_by id n counts none o there = none_clipped o.id n (subst (λ id. Counts (clipper_at (get ties)) id n) (sym (whole.own id o there)) counts) none (siblings groups o.parent)
+
+  module _ (sound : IsSound (get ties)) (o : Object) (there : of_id objects o.id ≡ Some o) where
+    abbrev board : Board
+    board = record { w = w; h = h; objects = objects; groups = groups }
+
+    stand : All (λ p. of_id objects p.id ≡ Some p) (filter_map (of_id objects) (siblings groups o.parent))
+    stand = listed_stand objects whole.own (siblings groups o.parent)
+
+    -- what has a clipper is its sibling
+    among : (q : ℕ) (p : Object) → of_id objects q ≡ Some p → (b : Bool) → is_clipped_by o.id p ≡ b → (has (siblings groups o.parent) q && b) ≡ b
+    among q p at true f =
+        let same : o.parent ≡ p.parent = sym (parent_is o.id o there) ∙ sound.siblings q o.id (clipper_is q p at ∙ clipper_of o.id p f) ∙ parent_is q p at in
+        ap (λ b. b && true) (has_sibling (group groups o.parent) q p.layer (ap (λ parent. layer_in (group groups parent) q) same ∙ stands_in w h objects groups ties whole q p at))
+    among q p at false f = and_false (has (siblings groups o.parent) q)
+      where
+        and_false : (b : Bool) → (b && false) ≡ false
+        and_false true = refl
+        and_false false = refl
+
+    -- new states of all that it clips, put at their ids
+    pub spread_released : (q : ℕ) → of_id (spread (map (apply (change.Clip None)) (clipped_by board o)) objects) q ≡ option_map (unclipped o.id) (of_id objects q)
+    spread_released q =
+        spread_at (apply (change.Clip None)) (λ p. refl) (clipped_by board o) objects (All-filter (is_clipped_by o.id) (λ p. of_id objects p.id ≡ Some p) (filter_map (of_id objects) (siblings groups o.parent)) stand) q
+        ∙ go (of_id objects q) refl
+      where
+        go : (f : Option Object) → of_id objects q ≡ f → option_map (λ p. if has (map (λ p. p.id) (clipped_by board o)) q then apply (change.Clip None) p else p) f ≡ option_map (unclipped o.id) f
+        go None e = refl
+        go (Some p) e = ap (λ b. Some (if b then apply (change.Clip None) p else p))
+            (has_chosen objects (is_clipped_by o.id) q p e (filter_map (of_id objects) (siblings groups o.parent)) stand
+            ∙ ap (λ b. b && is_clipped_by o.id p) (has_listed objects whole.own (siblings groups o.parent) q p e) ∙ among q p e (is_clipped_by o.id p) refl)
+
+-- each of the new states is of an object that is there
+module _ (w h : ℕ) (states : List (Option (Held Object))) (groups : List (List (ℕ × ℤ))) (ties : Ties) (whole : IsWhole w h (values_of states) groups ties) (o : Object) where
+  named_still : (p : Object) → of_id (values_of states) p.id ≡ Some p → name_at states p.id ≡ Some p.name
+  named_still p at = go (of_id states p.id) (sym (of_id_map value_of states p.id) ∙ at)
+    where
+      go : (f : Option (Held Object)) → option_map value_of f ≡ Some p → option_map (λ s. s.value.name) f ≡ Some p.name
+      go None e = absurd (none-some p e)
+      go (Some s) e = ap (option_map (λ (p : Object). p.name)) e
+
+  pub released_states : (items : List (Held Object)) → map value_of items ≡ map (apply (change.Clip None)) (clipped_by (record { w = w; h = h; objects = values_of states; groups = groups }) o)
+      → (now : List (Option (Held Object))) → now ≡ states → All (IsStateOf now) items
+  released_states items made now still =
+      subst (λ now. All (IsStateOf now) items) (sym still) (of_values items
+      (subst (All (λ p. name_at states p.id ≡ Some p.name)) (sym made)
+      (All-map (λ p. name_at states p.id ≡ Some p.name) (apply (change.Clip None)) (filter (is_clipped_by o.id) (filter_map (of_id (values_of states)) (siblings groups o.parent)))
+      (All-filter (is_clipped_by o.id) (λ p. name_at states p.id ≡ Some p.name) (filter_map (of_id (values_of states)) (siblings groups o.parent))
+      (λ k d low. named_still _ (listed_stand (values_of states) whole.own (siblings groups o.parent) k d low))))))
+    where
+      of_values : (items : List (Held Object)) → All (λ p. name_at states p.id ≡ Some p.name) (map value_of items) → All (IsStateOf states) items
+      of_values [] all k d low = absurd (omega (arith, low))
+      of_values (s ∷ items) all zero d low = all 0 s.value (omega arith)
+      of_values (s ∷ items) all (suc k) d low = of_values items (λ k d low. all (suc k) d (omega (arith, low))) k d (omega (arith, low))

@@ -1,0 +1,325 @@
+-- Where the objects of a scene stand in its order, by what they stand in.
+use Rattle.std.proofs.Common.{◌≡◌, ◌≢◌, ℕ, zero, suc, ℤ, ◌<◌, Bool, true, false, ◌==◌, if◌then◌else◌, List, [], ◌∷◌, length, get_or, Option, Some, None, is_some, All, inl, inr, refl, sym, subst, ap, ◌∙◌, arith, eq-eqb}
+use Rattle.std.proofs.lemmas.Bool.Decides.{nat_tests, eqb_tells}
+use Rattle.std.proofs.lemmas.Option.{none-some, same_Some}
+use Rattle.std.proofs.Math.Bool.{true≢false}
+use Rattle.std.specs.Prelude.{AllPairs, IsTrue, filter_map}
+use Rattle.std.specs.FinMap.{get, len}
+use Rattle.std.specs.List.{cons_option}
+use Rattle.std.specs.Option.{option_map, option_and_then}
+use Rattle.ev_model.specs.Chain.{ends}
+use Rattle.ev_model.specs.Content.{kind_of}
+use Rattle.ev_model.specs.Up.{with_id, next, is_smart, is_smart_content}
+use Rattle.ev_model.specs.declared.content.Content.{Content}
+use Rattle.ev_model.specs.declared.content.Content.TheVariants as content
+use Rattle.ev_model.specs.declared.content.Kind.TheVariants as kind
+use Rattle.ev_model.specs.declared.object.Object.{Object}
+use Rattle.ev_stack.specs.Order as stack
+use Rattle.ev_stack.specs.Order.{layer_in, ids_of, IsApart}
+use Rattle.ev_groups.specs.Groups.{place, group, siblings}
+use Rattle.ev_links.specs.Ties.{Ties, clipper_at, parent_at, kind_at, has, Has, IsDistinct, places_of, is_inside, IsWay, IsSound}
+use Rattle.ev_links.proofs.Sound.{parent_there, clipper_there, parents_end}
+use Rattle.ev_links.proofs.Ways.{has-Has, no_return}
+use Rattle.ev_links.proofs.Whole.{walk_whole}
+use Rattle.ev_scene.specs.Slots.{of_id, live}
+use Rattle.ev_scene.specs.Board.{Board, ids_in, inside, stage_of}
+use Rattle.ev_scene.specs.Ties.{tie_of, layer_at}
+use Rattle.ev_scene.specs.Whole.{IsWhole}
+use Rattle.ev_scene.proofs.Places.{of_id_suc, found, none_found}
+use Rattle.ev_scene.proofs.Standing.{stands_in}
+use Rattle.ev_scene.proofs.Nesting as nest
+use Rattle.ev_scene.proofs.Ways as way
+
+-- the ids of siblings are those that have a layer
+has_layer : (xs : List (ℕ × ℤ)) (id : ℕ) (layer : ℤ) → layer_in xs id ≡ Some layer → Has id (ids_of xs)
+has_layer [] id layer e = absurd (none-some layer e)
+has_layer (one ∷ xs) id layer e = elim (eqb_tells one.0 id) [ inl same ↦ inl same.1 | inr differ ↦ inr (has_layer xs id layer (rw differ.0 at e)) ]
+
+layer_of : (xs : List (ℕ × ℤ)) (id : ℕ) → Has id (ids_of xs) → is_some (layer_in xs id) ≡ true
+layer_of [] id h = absurd h
+layer_of (one ∷ xs) id h =
+    elim (eqb_tells one.0 id) [
+      | inl same ↦ rw same.0 refl
+      | inr differ ↦ rw differ.0 (layer_of xs id (elim h [ inl here ↦ absurd (differ.1 here) | inr later ↦ later ]))
+    ]
+
+away : (xs : List (ℕ × ℤ)) (id : ℕ) → IsApart id xs → ¬ Has id (ids_of xs)
+away [] id apart h = h
+away (one ∷ xs) id apart h = elim h [ inl here ↦ apart.0 here | inr later ↦ away xs id apart.1 later ]
+
+distinct_ids : (xs : List (ℕ × ℤ)) → stack.IsDistinct xs → IsDistinct (ids_of xs)
+distinct_ids [] d = tt
+distinct_ids (one ∷ xs) d = (away xs one.0 d.0, distinct_ids xs d.1)
+
+some_mapped : {A B : Type 0} (f : A → B) (o : Option A) → is_some (option_map f o) ≡ true → is_some o ≡ true
+some_mapped f None e = absurd (true≢false (sym e))
+some_mapped f (Some x) e = refl
+
+-- only smart objects are of the kind of those
+smart_kind : (c : Content) → kind_of c ≡ kind.Smart → is_smart_content c ≡ true
+smart_kind content.Rect e = cc
+smart_kind content.Smart e = refl
+smart_kind (content.Image part) e = cc
+smart_kind (content.Text part) e = cc
+
+never_rect : (c : Content) → is_smart_content c ≡ true → kind_of c ≡ kind.Rect → ⊥
+never_rect content.Rect s e = true≢false (sym s)
+never_rect content.Smart s e = cc
+never_rect (content.Image part) s e = cc
+never_rect (content.Text part) s e = cc
+
+module _ (w h : ℕ) (objects : List (Option Object)) (groups : List (List (ℕ × ℤ))) (ties : Ties) (whole : IsWhole w h objects groups ties) where
+  abbrev is_there : ℕ → Bool
+  is_there id = is_some (of_id objects id)
+
+  abbrev board : Board
+  board = record { w = w; h = h; objects = objects; groups = groups }
+
+  -- the objects that are there, found by their ids
+  pub live_found : (id : ℕ) → with_id (live objects) id ≡ of_id objects id
+  live_found id = go id (of_id objects id) refl where
+    go : (id : ℕ) (f : Option Object) → of_id objects id ≡ f → with_id (live objects) id ≡ f
+    go id None e = none_found (λ o. o.id == id) objects (λ j o at.
+        let there : of_id objects (suc j) ≡ Some o = of_id_suc objects j ∙ at in
+        elim (eqb_tells o.id id) [
+          | inl same ↦ absurd (none-some o (sym e ∙ ap (of_id objects) (sym same.1 ∙ whole.own (suc j) o there) ∙ there))
+          | inr differ ↦ differ.0
+        ])
+    go zero (Some o) e = absurd (none-some o e)
+    go (suc k) (Some o) e = found (λ o. o.id == suc k) objects k o (sym (of_id_suc objects k) ∙ e) (eq-eqb o.id (suc k) (whole.own (suc k) o e)) (λ j p at passes.
+        let own : p.id ≡ suc j = whole.own (suc j) p (of_id_suc objects j ∙ at) in
+        grind (arith, nat_tests))
+
+  module _ (sound : IsSound (get ties)) where
+    abbrev over : ℕ → Option ℕ
+    over = parent_at (get ties)
+
+    parent_is : (id : ℕ) (o : Object) → of_id objects id ≡ Some o → over id ≡ o.parent
+    parent_is id o there = ap (option_and_then (λ tie. tie.parent)) (whole.tied id ∙ ap (option_map tie_of) there)
+
+    clipper_is : (id : ℕ) (o : Object) → of_id objects id ≡ Some o → clipper_at (get ties) id ≡ o.clipper
+    clipper_is id o there = ap (option_and_then (λ tie. tie.clipper)) (whole.tied id ∙ ap (option_map tie_of) there)
+
+    kind_is : (id : ℕ) (o : Object) → of_id objects id ≡ Some o → kind_at (get ties) id ≡ Some (kind_of o.content)
+    kind_is id o there = ap (option_and_then (λ tie. Some tie.kind)) (whole.tied id ∙ ap (option_map tie_of) there)
+
+    there_too : (id : ℕ) → is_some (get ties id) ≡ true → is_there id ≡ true
+    there_too id e = some_mapped tie_of (of_id objects id) (sym (ap is_some (whole.tied id)) ∙ e)
+
+    known : (q to : ℕ) → over q ≡ Some to → is_there to ≡ true
+    known q to e = there_too to (parent_there (get ties) sound q to e)
+
+    there_tied : (id : ℕ) → is_there id ≡ true → is_some (get ties id) ≡ true
+    there_tied id there = go (of_id objects id) refl there where
+      go : (f : Option Object) → of_id objects id ≡ f → is_some f ≡ true → is_some (get ties id) ≡ true
+      go None e t = absurd (true≢false (sym t))
+      go (Some o) e t = ap is_some (whole.tied id ∙ ap (option_map tie_of) e)
+
+    -- what stands in what
+    stands : (x : ℕ) → is_there x ≡ true → Has x (siblings groups (over x))
+    stands x there = go (of_id objects x) refl there where
+      go : (f : Option Object) → of_id objects x ≡ f → is_some f ≡ true → Has x (siblings groups (over x))
+      go None e t = absurd (true≢false (sym t))
+      go (Some o) e t = subst (λ p. Has x (siblings groups p)) (sym (parent_is x o e)) (has_layer (group groups o.parent) x o.layer (stands_in w h objects groups ties whole x o e))
+
+    same_place : (a b : Option ℕ) → nest.IsParent is_there a → nest.IsParent is_there b → place a ≡ place b → a ≡ b
+    same_place None None p q e = refl
+    same_place None (Some b) p q e = absurd (true≢false (sym (ap is_there e ∙ q)))
+    same_place (Some a) None p q e = absurd (true≢false (sym (ap is_there (sym e) ∙ p)))
+    same_place (Some a) (Some b) p q e = ap Some e
+
+    parent_there_too : (x : ℕ) (parent : Option ℕ) → over x ≡ parent → nest.IsParent is_there parent
+    parent_there_too x None e = tt
+    parent_there_too x (Some q) e = known x q e
+
+    members : (x : ℕ) (parent : Option ℕ) → nest.IsParent is_there parent → Has x (siblings groups parent) → (over x ≡ parent) × (is_there x ≡ true)
+    members x parent is h = go (of_id objects x) refl (sym (ap is_some (whole.stands (place parent) x)) ∙ layer_of (group groups parent) x h) where
+      at_place_of : (o : Object) → is_some (layer_at (place parent) o) ≡ true → place o.parent ≡ place parent
+      at_place_of o t = elim (eqb_tells (place o.parent) (place parent)) [ inl same ↦ same.1 | inr differ ↦ absurd (true≢false (sym (rw differ.0 at t))) ]
+
+      go : (f : Option Object) → of_id objects x ≡ f → is_some (option_and_then (layer_at (place parent)) f) ≡ true → (over x ≡ parent) × (is_there x ≡ true)
+      go None e t = absurd (true≢false (sym t))
+      go (Some o) e t =
+          let its : over x ≡ o.parent = parent_is x o e in
+          (its ∙ same_place o.parent parent (parent_there_too x o.parent its) is (at_place_of o t), ap is_some e)
+
+    -- there are more objects than a way has
+    fits : (x : ℕ) (ids : List ℕ) → is_there x ≡ true → IsWay over x ids → length ids < length (live objects)
+    fits x ids there p = go (of_id objects x) refl there where
+      go : (f : Option Object) → of_id objects x ≡ f → is_some f ≡ true → length ids < length (live objects)
+      go None e t = absurd (true≢false (sym t))
+      go (Some o) e t =
+          let own : o.id ≡ x = whole.own x o e in
+          way.shorter_than_all (live objects) (λ o. o.parent) over (λ o there. parent_is o.id o (sym (live_found o.id) ∙ there)) (λ q to e. ap is_some (live_found to) ∙ known q to e)
+          o ids (live_found o.id ∙ ap (of_id objects) own ∙ e) (subst (λ n. IsWay over n ids) (sym own) p)
+
+    along : (id : ℕ) → (ids : List ℕ) × IsWay over id ids
+    along id = parents_end (get ties) sound id
+
+    -- each object that is there stands in the order
+    pub reached : (id : ℕ) → is_there id ≡ true → Has id (ids_in board None)
+    reached id there = nest.reached (siblings groups) over is_there known stands members (length (live objects)) id (along id).0 (along id).1 there (fits id (along id).0 there (along id).1)
+
+    -- and all in the order is there
+    pub listed_there : (id : ℕ) → Has id (ids_in board None) → is_there id ≡ true
+    listed_there id h = nest.all_there (siblings groups) over is_there known stands members (length (live objects)) id None tt h
+
+    -- the same for what stands in an object
+    pub members_there : (q id : ℕ) → is_there q ≡ true → Has id (ids_in board (Some q)) → is_there id ≡ true
+    members_there q id there h = nest.all_there (siblings groups) over is_there known stands members (length (live objects)) id (Some q) there h
+
+    -- where no sibling stands twice, nothing stands twice in the order
+    module _ (once : (at : ℕ) → stack.IsDistinct (get_or groups at [])) where
+      pub listed_once : IsDistinct (ids_in board None)
+      listed_once = nest.stands_once (siblings groups) over is_there known stands members along (λ parent. distinct_ids (group groups parent) (once (place parent))) (length (live objects)) None tt
+
+      pub members_once : (q : ℕ) → is_there q ≡ true → IsDistinct (ids_in board (Some q))
+      members_once q there = nest.stands_once (siblings groups) over is_there known stands members along (λ parent. distinct_ids (group groups parent) (once (place parent))) (length (live objects)) (Some q) there
+
+      pub distinct : AllPairs (λ a b. a ≢ b) (ids_in board None)
+      distinct = nest.all_differ (ids_in board None) listed_once
+
+    -- the objects of the order, found by their ids
+    abbrev listed : List ℕ → List Object
+    listed ids = filter_map (of_id objects) ids
+
+    found_among : (ids : List ℕ) (id : ℕ) (o : Object) → of_id objects id ≡ Some o → Has id ids → with_id (listed ids) id ≡ Some o
+    found_among [] id o e h = absurd h
+    found_among (x ∷ ids) id o e h = go (of_id objects x) refl (found_among ids id o e) where
+      go : (f : Option Object) → of_id objects x ≡ f → (Has id ids → with_id (listed ids) id ≡ Some o) → with_id (cons_option f (listed ids)) id ≡ Some o
+      go None f later = elim h [ inl here ↦ absurd (none-some o (sym f ∙ ap (of_id objects) here ∙ e)) | inr more ↦ later more ]
+      go (Some u) f later =
+          let own : u.id ≡ x = whole.own x u f in
+          elim (eqb_tells u.id id) [
+            | inl same ↦ rw same.0 (sym f ∙ ap (of_id objects) (sym own ∙ same.1) ∙ e)
+            | inr differ ↦ rw differ.0 (later (elim h [ inl here ↦ absurd (differ.1 (own ∙ here)) | inr more ↦ more ]))
+          ]
+
+    none_among : (ids : List ℕ) (id : ℕ) → of_id objects id ≡ None → with_id (listed ids) id ≡ None
+    none_among [] id e = refl
+    none_among (x ∷ ids) id e = go (of_id objects x) refl (none_among ids id e) where
+      go : (f : Option Object) → of_id objects x ≡ f → with_id (listed ids) id ≡ None → with_id (cons_option f (listed ids)) id ≡ None
+      go None f later = later
+      go (Some u) f later =
+          elim (eqb_tells u.id id) [
+            | inl same ↦ absurd (none-some u (sym e ∙ ap (of_id objects) (sym same.1 ∙ whole.own x u f) ∙ f))
+            | inr differ ↦ rw differ.0 later
+          ]
+
+    pub order_found : (id : ℕ) → with_id (stage_of board).objects id ≡ of_id objects id
+    order_found id = go (of_id objects id) refl where
+      go : (f : Option Object) → of_id objects id ≡ f → with_id (listed (ids_in board None)) id ≡ f
+      go None e = none_among (ids_in board None) id e
+      go (Some o) e = found_among (ids_in board None) id o e (reached id (ap is_some e))
+
+    -- each object of the order stands at its id
+    listed_own : (ids : List ℕ) → All (λ o. of_id objects o.id ≡ Some o) (listed ids)
+    listed_own [] k d h = absurd (omega (arith, h))
+    listed_own (x ∷ ids) k d h = go (of_id objects x) refl (listed_own ids) k d h where
+      go : (f : Option Object) → of_id objects x ≡ f → All (λ o. of_id objects o.id ≡ Some o) (listed ids) → All (λ o. of_id objects o.id ≡ Some o) (cons_option f (listed ids))
+      go None e all k d h = all k d h
+      go (Some u) e all zero d h = ap (of_id objects) (whole.own x u e) ∙ e
+      go (Some u) e all (suc k) d h = all k d (omega (arith, h))
+
+    pub order_own : All (λ o. of_id objects o.id ≡ Some o) (stage_of board).objects
+    order_own = listed_own (ids_in board None)
+
+    -- each way up in the order comes to an end
+    pub ways : All (λ o. IsTrue (ends (length (stage_of board).objects) (next (stage_of board).objects) (next (stage_of board).objects o))) (stage_of board).objects
+    ways k d h = way.ways (stage_of board).objects (get ties) (λ id. whole.tied id ∙ ap (option_map tie_of) (sym (order_found id))) sound _ (order_found _ ∙ order_own k d h)
+
+    -- the places of an object are itself and its way
+    places_are : (x : ℕ) → is_there x ≡ true → places_of ties x ≡ x ∷ (along x).0
+    places_are x there = walk_whole ties over x (along x).0 (suc (len ties)) (omega arith) (there_tied x there) (parent_there (get ties) sound) (along x).1
+
+    -- an object
+    module _ (o : Object) (stands_there : of_id objects o.id ≡ Some o) where
+      o_there : is_there o.id ≡ true
+      o_there = ap is_some stands_there
+
+      -- what has members is smart
+      smart_parent : (y : ℕ) → over y ≡ Some o.id → is_smart o ≡ true
+      smart_parent y e = smart_kind o.content (same_Some _ _ (sym (kind_is o.id o stands_there) ∙ sound.parents y o.id e))
+
+      -- what stands inside it are the objects whose ways meet it
+      met : (x : ℕ) → is_there x ≡ true → (ids : List ℕ) → IsWay over x ids → Has x (inside board o) → Has o.id (x ∷ ids)
+      met x there ids p h = elim h [ inl here ↦ inl (sym here) | inr later ↦ inr (go (is_smart o) later) ] where
+        go : (b : Bool) → Has x (if b then ids_in board (Some o.id) else []) → Has o.id ids
+        go true h = nest.on_the_way (siblings groups) over is_there known stands members (length (live objects)) x o.id ids o_there p h
+        go false h = absurd h
+
+      meets : (x : ℕ) → is_there x ≡ true → (ids : List ℕ) → IsWay over x ids → Has o.id (x ∷ ids) → Has x (inside board o)
+      meets x there ids p h =
+          elim h [
+            | inl here ↦ inl (sym here)
+            | inr later ↦ inr (go (is_smart o) (let y = nest.led over x o.id ids p later in smart_parent y.0 y.1) later)
+          ]
+        where
+          go : (b : Bool) → b ≡ true → Has o.id ids → Has x (if b then ids_in board (Some o.id) else [])
+          go true t later = let few = fits x ids there p in nest.reached_in (siblings groups) over is_there known stands members (length (live objects)) x o.id ids p there later (omega (arith, few))
+          go false t later = absurd (true≢false (sym t))
+
+      pub inside_is : (x : ℕ) → is_there x ≡ true → has (inside board o) x ≡ is_inside ties x o.id
+      inside_is x there =
+          nest.has_same (inside board o) (x ∷ (along x).0) x o.id (met x there (along x).0 (along x).1) (meets x there (along x).0 (along x).1)
+          ∙ ap (λ ids. has ids o.id) (sym (places_are x there))
+
+      -- all inside is there
+      pub inside_there : (x : ℕ) → Has x (inside board o) → is_there x ≡ true
+      inside_there x h = elim h [ inl here ↦ ap is_there (sym here) ∙ o_there | inr later ↦ go (is_smart o) later ] where
+        go : (b : Bool) → Has x (if b then ids_in board (Some o.id) else []) → is_there x ≡ true
+        go true h = members_there o.id x o_there h
+        go false h = absurd h
+
+      -- what stands in something inside stands inside
+      pub inside_closed : (x q : ℕ) (p : Object) → of_id objects x ≡ Some p → p.parent ≡ Some q → has (inside board o) q ≡ true → has (inside board o) x ≡ true
+      inside_closed x q p there e gone =
+          let led : over x ≡ Some q = parent_is x p there ∙ e in
+          let onward = met q (known x q led) (along q).0 (along q).1 (nest.Has-has (inside board o) q gone) in
+          has-Has (inside board o) x (meets x (ap is_some there) (q ∷ (along q).0) (led, (along q).1) (inr onward))
+
+      -- what stands inside and is not the object itself stands in something inside
+      pub inside_above : (x : ℕ) (p : Object) → of_id objects x ≡ Some p → has (inside board o) x ≡ true → x ≢ o.id → (q : ℕ) × ((p.parent ≡ Some q) × (has (inside board o) q ≡ true))
+      inside_above x p there gone other = go (along x).0 (along x).1 (met x (ap is_some there) (along x).0 (along x).1 (nest.Has-has (inside board o) x gone)) where
+        go : (ids : List ℕ) → IsWay over x ids → Has o.id (x ∷ ids) → (q : ℕ) × ((p.parent ≡ Some q) × (has (inside board o) q ≡ true))
+        go [] r h = elim h [ inl here ↦ absurd (other here) | inr later ↦ absurd later ]
+        go (q ∷ ids) r h =
+            elim h [
+              | inl here ↦ absurd (other here)
+              | inr later ↦ (q, (sym (parent_is x p there) ∙ r.0, has-Has (inside board o) q (meets q (known x q r.0) ids r.1 later)))
+            ]
+
+      -- what the object stands in is not inside
+      pub inside_outside : (q : ℕ) → o.parent ≡ Some q → has (inside board o) q ≡ false
+      inside_outside q e = nest.has_not (inside board o) q (λ h.
+          let led : over o.id ≡ Some q = parent_is o.id o stands_there ∙ e in
+          no_return over o.id (q ∷ (along q).0) (led, (along q).1) (met q (known o.id q led) (along q).0 (along q).1 h))
+
+      -- what has a clipper inside stands inside, where the object is smart: a clipper is a rectangle and a sibling
+      pub inside_clipped : is_smart o ≡ true → (x c : ℕ) (p : Object) → of_id objects x ≡ Some p → p.clipper ≡ Some c → has (inside board o) c ≡ true → has (inside board o) x ≡ true
+      inside_clipped smart x c p there e gone =
+          has-Has (inside board o) x (go (along c).0 (along c).1 (met c (there_too c (clipper_there (get ties) sound x c led)) (along c).0 (along c).1 (nest.Has-has (inside board o) c gone)))
+        where
+          led : clipper_at (get ties) x ≡ Some c
+          led = clipper_is x p there ∙ e
+
+          sibling : over c ≡ over x
+          sibling = sound.siblings x c led
+
+          other : c ≢ o.id
+          other same = never_rect o.content smart (same_Some _ _ (sym (kind_is o.id o stands_there) ∙ ap (kind_at (get ties)) (sym same) ∙ sound.clippers x c led))
+
+          go : (ids : List ℕ) → IsWay over c ids → Has o.id (c ∷ ids) → Has x (inside board o)
+          go [] r h = elim h [ inl here ↦ absurd (other here) | inr later ↦ absurd later ]
+          go (q ∷ ids) r h = elim h [ inl here ↦ absurd (other here) | inr later ↦ meets x (ap is_some there) (q ∷ ids) (sym sibling ∙ r.0, r.1) (inr later) ]
+
+      -- where no sibling stands twice, nothing stands twice inside
+      pub inside_once : ((at : ℕ) → stack.IsDistinct (get_or groups at [])) → IsDistinct (inside board o)
+      inside_once once = (apart (is_smart o), rest (is_smart o)) where
+        apart : (b : Bool) → ¬ Has o.id (if b then ids_in board (Some o.id) else [])
+        apart true h = no_return over o.id (along o.id).0 (along o.id).1 (nest.on_the_way (siblings groups) over is_there known stands members (length (live objects)) o.id o.id (along o.id).0 o_there (along o.id).1 h)
+        apart false h = h
+
+        rest : (b : Bool) → IsDistinct (if b then ids_in board (Some o.id) else [])
+        rest true = members_once once o.id o_there
+        rest false = tt

@@ -1,0 +1,34 @@
+use Rattle.std.proofs.Common.{◌≡◌, ℕ, List, All, length, None, sym, subst}
+use Rattle.std.specs.Prelude.{IsTrue}
+use Rattle.ev_model.specs.Chain.{ends}
+use Rattle.ev_model.specs.Limits.{IsObject}
+use Rattle.ev_model.specs.Up.{with_id, next}
+use Rattle.ev_model.specs.declared.object.Object.{Object}
+use Rattle.ev_scene.specs.Slots.{of_id}
+use Rattle.ev_scene.specs.Board.{values_of, ids_in}
+use Rattle.ev_scene.specs.Cast.{board_of}
+use Rattle.ev_scene.proofs.Capturing.{are_objects, limits_in_order}
+use Rattle.ev_scene.proofs.Trees.{order_found, ways}
+use Rattle.ev_scene.proofs.cast.Cast.capture.Goals as goal
+
+pub records-requires-clause-found : goal.records-requires-clause-found
+records-requires-clause-found c =
+    let P : List Object → Type 0 = λ objects. (id : ℕ) → with_id objects id ≡ of_id (values_of c.args.self.now.roll.states) id in
+    subst P (sym (c.in_ok-objects.ensures)) (order_found c.args.self.now.w c.args.self.now.h (values_of c.args.self.now.roll.states) c.args.self.now.groups c.args.self.now.links c.requires c.len-ties.ensures.sound)
+
+pub records-requires-clause-ways : goal.records-requires-clause-ways
+records-requires-clause-ways c =
+    let P : List Object → Type 0 = λ objects. All (λ o. IsTrue (ends (length objects) (next objects) (next objects o))) objects in
+    subst P (sym (c.in_ok-objects.ensures)) (ways c.args.self.now.w c.args.self.now.h (values_of c.args.self.now.roll.states) c.args.self.now.groups c.args.self.now.links c.requires c.len-ties.ensures.sound)
+
+pub invariant_of-result : goal.invariant_of-result
+invariant_of-result c =
+    let P : List Object → Type 0 = λ objects. All IsObject objects in
+    record {
+      w_low = c.requires.w_low;
+      w_high = c.requires.w_high;
+      h_low = c.requires.h_low;
+      h_high = c.requires.h_high;
+      objects = are_objects c.in_ok-objects.objects (subst P (sym (c.in_ok-objects.ensures)) (limits_in_order (values_of c.args.self.now.roll.states) (ids_in (board_of c.args.self.now) None) c.requires.limits));
+      looks = (c.in_ok-records.ensures);
+    }

@@ -1,0 +1,9 @@
+use Rattle.std.proofs.Common.{◌≡◌, ◌++◌, filter_map, drop}
+use Rattle.ev_model.specs.Stage.{values}
+use Rattle.ev_scene.specs.Slots.{of_id}
+use Rattle.ev_scene.specs.Board.{values_of}
+use Rattle.ev_scene.proofs.cast.Cast.shares.Given as goal
+
+-- the objects so far, and those of the other ids, are all
+abbrev pub invariant-loop-id : goal.invariant-loop-id
+invariant-loop-id l = values l.objects ++ filter_map (of_id (values_of l.self.roll.states)) (drop l.id-index l.id-items) ≡ filter_map (of_id (values_of l.self.roll.states)) l.id-items

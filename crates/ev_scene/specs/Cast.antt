@@ -1,0 +1,22 @@
+-- What is kept of a scene, and how it stands for a board.
+use Rattle.std.specs.Prelude.{◌≡◌}
+use Rattle.ev_scene.specs.declared.cast.Cast.{Cast}
+use Rattle.ev_scene.specs.Board.{Kept, Board, board, values_of}
+use Rattle.ev_scene.specs.Whole.{IsWhole}
+
+abbrev pub kept_of : Cast → Kept
+kept_of cast = record { w = cast.w; h = cast.h; made = cast.roll.made; states = cast.roll.states; groups = cast.groups }
+
+abbrev pub board_of : Cast → Board
+board_of cast = board (kept_of cast)
+
+-- what holds of a scene holds of it
+abbrev pub IsCast : Cast → Type 0
+IsCast cast = IsWhole cast.w cast.h (values_of cast.roll.states) cast.groups cast.links
+
+-- all but the objects stays
+pub record IsSameButRoll (old new : Cast) : Type 0 where
+  pub w : new.w ≡ old.w
+  pub h : new.h ≡ old.h
+  pub groups : new.groups ≡ old.groups
+  pub links : new.links ≡ old.links
