@@ -13,5 +13,6 @@ time_of() {
         awk -v what="$2" -v count="$(($3 * runs))" '{ printf "%s: %.0f ns a job\n", what, ($1 + $2) * 1e9 / count }'
 }
 
+time_of ev_ring the_owner_alone_passes_a_hundred_thousand_jobs 100000
 time_of ev_ring four_threads_pass_a_hundred_thousand_jobs 100000
 time_of ev_desk two_threads_pass_ten_thousand_errands 10000

@@ -160,6 +160,15 @@ fn four_threads_pass_a_hundred_thousand_jobs(rt: HostRuntime) -> Result<(), Fail
     Ok(())
 }
 
+#[test]
+fn the_owner_alone_passes_a_hundred_thousand_jobs(rt: HostRuntime) -> Result<(), Fail> {
+    let (mut owner, hands) = ring::<Square>(rt.alloc(), 0)?;
+    assert!(rt; hands.is_empty());
+    assert_eq!(rt; pass_jobs(&rt, rt.alloc(), &mut owner)?, 100_000);
+    owner.close();
+    Ok(())
+}
+
 // Does the one job of the number 7, and gives the hand back.
 fn do_the_only_job<R: Abort>(rt: &R, mut hand: Hand<Square>) -> Hand<Square>
     requires { HoldsNothing (hand_view hand) }
