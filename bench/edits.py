@@ -6,6 +6,7 @@
 Each case is a script of some objects and then many lines of one kind. Its time is compared, in the same
 run, with that of the same script with `hide` of a hidden object in place of these lines, which costs the
 reading of a line and one look-up; and with `cat`, which only moves the bytes. Best of five runs.
+At the end stand moves of a smart object, with members beside each other and in one another.
 """
 import os
 import random
@@ -38,6 +39,19 @@ def script_of(lines):
     return ("\n".join(lines) + "\n").encode()
 
 
+def groups(program):
+    """What a move of a smart object costs, with 800 members and with 800 smart objects in one another."""
+    flat, deep = ["smart g"], ["smart g"]
+    for n in range(800):
+        flat += [f"rect m{n}", f"member m{n} g"]
+        deep += [f"smart s{n}", f"member s{n} {'g' if n == 0 else f's{n - 1}'}"]
+    for name, made in (("800 members", flat), ("800 in one another", deep)):
+        base = best(program, script_of(made))
+        moves = [f"move g {n % 300} {n % 200}" for n in range(1, 5_001)]
+        taken = (best(program, script_of(made + moves)) - base) / len(moves)
+        print(f"{'move of ' + name:34}{taken * 1e6:10.1f} us")
+
+
 def main():
     top = os.path.dirname(os.path.dirname(os.path.abspath(__file__)))
     program = [sys.argv[1] if len(sys.argv) > 1 else os.path.join(top, "crates/evas_script/out/evas_script")]
@@ -65,6 +79,7 @@ def main():
             print(f"{name + f' among {count} siblings':34}{taken * 1e9:10.0f}{taken / hide:9.2f}{1e-6 / taken:24.2f}")
         moved = best(["cat"], script_of(made + cases[0][1])) / LINES
         print(f"{'cat of the lines of hide':34}{moved * 1e9:10.0f}{moved / hide:9.2f}{1e-6 / moved:24.2f}")
+    groups(program)
 
 
 if __name__ == "__main__":
