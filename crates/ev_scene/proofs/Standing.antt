@@ -9,7 +9,10 @@ use Rattle.std.proofs.lemmas.Int.{ints}
 use Rattle.std.proofs.lemmas.Bool.Decides.{nat_tests, eqb_tells}
 use Rattle.std.proofs.lemmas.List.{length-map, map-append, length-append, length-set}
 use Rattle.ev_state.specs.Held.{Held}
-use Rattle.ev_model.specs.Limits.{IsObject}
+use Rattle.ev_model.specs.Content.{kind_of}
+use Rattle.ev_model.specs.Limits.{IsContent, IsObject}
+use Rattle.ev_model.specs.declared.content.Content.{Content}
+use Rattle.ev_model.specs.declared.content.Content.TheVariants as content
 use Rattle.ev_model.specs.declared.object.Object.{Object}
 use Rattle.ev_stack.specs.Order.{layer_in, put_top, without, IsApart, IsDistinct}
 use Rattle.ev_stack.specs.Calls.{place_fault, raised, lowered, relayered, placed_above, placed_below}
@@ -19,9 +22,11 @@ use Rattle.ev_model.specs.declared.content.Kind.TheVariants.{Rect, Image, Text, 
 use Rattle.ev_links.specs.Ties.{Tie, Ties, alone, released, parent_at, clipper_at, IsSound}
 use Rattle.ev_scene.specs.Slots.{of_id, put, value_of}
 use Rattle.ev_scene.specs.Board.{values_of}
-use Rattle.ev_scene.specs.Change.{apply, is_layer, is_plain, fresh, IsLook, IsFit}
+use Rattle.ev_scene.specs.Change.{apply, is_layer, is_made, fresh, drawn, IsDrawing, IsLook, IsFit}
 use Rattle.ev_scene.specs.Ties.{tie_of, layer_at}
 use Rattle.ev_scene.specs.Whole.{IsWhole}
+use Rattle.ev_scene.specs.declared.drawing.Drawing.{Drawing}
+use Rattle.ev_scene.specs.declared.drawing.Drawing.TheVariants as drawing
 use Rattle.ev_scene.specs.declared.change.Change.{Change}
 use Rattle.ev_scene.specs.declared.change.Change.TheVariants as change
 use Rattle.ev_scene.proofs.Apart.{apart_absent}
@@ -40,6 +45,7 @@ look_fits (change.Side w h) look = look
 look_fits (change.Appear on) look = look
 look_fits (change.Paint color) look = look
 look_fits (change.Treat op) look = look
+look_fits (change.Draw d) look = look
 look_fits (change.Lift layer) look = absurd look
 look_fits (change.Clip clipper) look = absurd look
 look_fits (change.Enter parent) look = absurd look
@@ -52,12 +58,34 @@ pub record IsSameStand (o o' : Object) : Type 0 where
   pub tie : tie_of o' ≡ tie_of o
   pub limits : IsObject o → IsObject o'
 
+-- another way to draw leaves the kind, and keeps the limits
+drawn_kind : (d : Drawing) (content : Content) → kind_of (drawn d content) ≡ kind_of content
+drawn_kind d content.Rect = refl
+drawn_kind d content.Smart = refl
+drawn_kind d (content.Image part) = refl
+drawn_kind d (content.Text part) = refl
+
+drawn_limits : (d : Drawing) (content : Content) → IsDrawing d → IsContent content → IsContent (drawn d content)
+drawn_limits d content.Rect fits old = old
+drawn_limits d content.Smart fits old = old
+drawn_limits (drawing.Fill fill) (content.Image part) fits old = (fits, old.1)
+drawn_limits (drawing.Border border) (content.Image part) fits old = (old.0, fits)
+drawn_limits (drawing.Center on) (content.Image part) fits old = old
+drawn_limits d (content.Text part) fits old = old
+
 pub look_stands : (c : Change) (o : Object) → IsLook c → IsSameStand o (apply c o)
 look_stands (change.Place x y) o look = record { id = refl; layer = refl; parent = refl; tie = refl; limits = λ l. record { layer_low = l.layer_low; layer_high = l.layer_high; content = l.content } }
 look_stands (change.Side w h) o look = record { id = refl; layer = refl; parent = refl; tie = refl; limits = λ l. record { layer_low = l.layer_low; layer_high = l.layer_high; content = l.content } }
 look_stands (change.Appear on) o look = record { id = refl; layer = refl; parent = refl; tie = refl; limits = λ l. record { layer_low = l.layer_low; layer_high = l.layer_high; content = l.content } }
 look_stands (change.Paint color) o look = record { id = refl; layer = refl; parent = refl; tie = refl; limits = λ l. record { layer_low = l.layer_low; layer_high = l.layer_high; content = l.content } }
 look_stands (change.Treat op) o look = record { id = refl; layer = refl; parent = refl; tie = refl; limits = λ l. record { layer_low = l.layer_low; layer_high = l.layer_high; content = l.content } }
+look_stands (change.Draw d) o look = record {
+  id = refl;
+  layer = refl;
+  parent = refl;
+  tie = ap (λ kind. record { kind = kind; clipper = o.clipper; parent = o.parent }) (drawn_kind d o.content);
+  limits = λ l. record { layer_low = l.layer_low; layer_high = l.layer_high; content = drawn_limits d o.content look l.content };
+}
 look_stands (change.Lift layer) o look = absurd look
 look_stands (change.Clip clipper) o look = absurd look
 look_stands (change.Enter parent) o look = absurd look
@@ -449,7 +477,7 @@ known_tie ties ties' id kind fault e f =
 
 -- the same of states
 pub made_to : (w h : ℕ) (states : List (Option (Held Object))) (groups : List (List (ℕ × ℤ))) (ties : Ties) → IsWhole w h (values_of states) groups ties
-    → (states' : List (Option (Held Object))) (s : Held Object) (name : List ℕ) (kind : Kind) (id : ℕ) (groups' : List (List (ℕ × ℤ))) (ties' : Ties) → is_plain kind ≡ true → id ≡ length states + 1 → s.value ≡ fresh id name kind
+    → (states' : List (Option (Held Object))) (s : Held Object) (name : List ℕ) (kind : Kind) (id : ℕ) (groups' : List (List (ℕ × ℤ))) (ties' : Ties) → is_made kind ≡ true → id ≡ length states + 1 → s.value ≡ fresh id name kind
     → states' ≡ states ++ Some s ∷ [] → groups' ≡ with_group groups None (put_top (group groups None) (length groups) (pos 0)) ++ [] ∷ [] → ties' ≡ insert ties id (alone kind)
     → IsWhole w h (values_of states') groups' ties'
 made_to w h states groups ties whole states' s name kind id groups' ties' plain next new e f g =
@@ -463,16 +491,16 @@ made_to w h states groups ties whole states' s name kind id groups' ties' plain 
     (f ∙ ap (λ n. with_group groups None (put_top (group groups None) n (pos 0)) ++ [] ∷ []) place)
     (g ∙ ap (insert ties id) (sym (ap tie_of new ∙ fresh_tie id name kind plain)))
   where
-    new_object : (id : ℕ) (name : List ℕ) (kind : Kind) → is_plain kind ≡ true → IsObject (fresh id name kind)
+    new_object : (id : ℕ) (name : List ℕ) (kind : Kind) → is_made kind ≡ true → IsObject (fresh id name kind)
     new_object id name Rect plain = record { layer_low = omega (arith, ints); layer_high = omega (arith, ints); content = tt }
     new_object id name Smart plain = record { layer_low = omega (arith, ints); layer_high = omega (arith, ints); content = tt }
-    new_object id name Image plain = absurd (true≢false (sym plain))
+    new_object id name Image plain = record { layer_low = omega (arith, ints); layer_high = omega (arith, ints); content = (tt, record { l = omega arith; r = omega arith; t = omega arith; b = omega arith }) }
     new_object id name Text plain = absurd (true≢false (sym plain))
 
-    fresh_tie : (id : ℕ) (name : List ℕ) (kind : Kind) → is_plain kind ≡ true → tie_of (fresh id name kind) ≡ alone kind
+    fresh_tie : (id : ℕ) (name : List ℕ) (kind : Kind) → is_made kind ≡ true → tie_of (fresh id name kind) ≡ alone kind
     fresh_tie id name Rect plain = refl
     fresh_tie id name Smart plain = refl
-    fresh_tie id name Image plain = absurd (true≢false (sym plain))
+    fresh_tie id name Image plain = refl
     fresh_tie id name Text plain = absurd (true≢false (sym plain))
 
 pub next_of : (states : List (Option (Held Object))) (id : ℕ) → id ≡ length states + 1 → id ≡ length (values_of states) + 1

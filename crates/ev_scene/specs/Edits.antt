@@ -9,6 +9,7 @@ use Rattle.ev_model.specs.declared.command.Edit.{Edit}
 use Rattle.ev_model.specs.declared.command.Edit.TheVariants as edit
 use Rattle.ev_model.specs.declared.content.Content.{Content}
 use Rattle.ev_model.specs.declared.content.Content.TheVariants as content
+use Rattle.ev_model.specs.declared.content.Fill.TheVariants.{Filled}
 use Rattle.ev_model.specs.declared.object.Object.{Object}
 use Rattle.ev_model.specs.declared.refusal.Refusal.{Refusal}
 use Rattle.ev_model.specs.declared.refusal.Refusal.TheVariants as refusal
@@ -18,14 +19,15 @@ use Rattle.ev_links.specs.Ties.{has}
 use Rattle.ev_groups.specs.Groups.{group, with_group, siblings}
 use Rattle.ev_scene.specs.Slots.{of_id, put, live}
 use Rattle.ev_scene.specs.Board.{Board, named, inside}
-use Rattle.ev_scene.specs.Change.{apply, fresh, is_layer, is_canvas, are_channels, color_of, is_plain}
+use Rattle.ev_scene.specs.Change.{apply, fresh, is_layer, is_canvas, are_channels, color_of, is_made, is_fill, fill_of, is_border, border_of}
+use Rattle.ev_scene.specs.declared.drawing.Drawing.TheVariants as drawing
 use Rattle.ev_scene.specs.declared.change.Change.{Change}
 use Rattle.ev_scene.specs.declared.change.Change.TheVariants as change
 
 -- the edits that are carried out so far
 abbrev pub is_built : Edit → Bool
 is_built (edit.Size w h) = true
-is_built (edit.Make name kind) = is_plain kind
+is_built (edit.Make name kind) = is_made kind
 is_built (edit.Delete name) = true
 is_built (edit.Move name x y) = true
 is_built (edit.Resize name w h) = true
@@ -39,6 +41,10 @@ is_built (edit.Clip name clipper) = true
 is_built (edit.Unclip name) = true
 is_built (edit.Member name smart) = true
 is_built (edit.Free name) = true
+is_built (edit.Fill name x y w h) = true
+is_built (edit.Filled name) = true
+is_built (edit.Border name l r t b) = true
+is_built (edit.Center name on) = true
 is_built other = false
 
 -- refused, unless a test holds
@@ -97,6 +103,14 @@ abbrev pub move_verdict : ℤ → ℤ → Board → Object → Option Refusal
 move_verdict x y board o =
     unless (if is_smart o then list_all (may_shift (x -ℤ o.rect.x) (y -ℤ o.rect.y)) (objects_in board o) else is_place x && is_place y) refusal.Range
 
+abbrev pub is_image : Content → Bool
+is_image (content.Image part) = true
+is_image other = false
+
+-- only an image object draws an image, by numbers in range
+abbrev pub image_verdict : Bool → Object → Option Refusal
+image_verdict in_range o = if not (is_image o.content) then Some refusal.Kind else unless in_range refusal.Range
+
 -- a new object needs a free name, and fewer than 65,536 objects that are there
 abbrev pub make_verdict : Board → List ℕ → Option Refusal
 make_verdict board name = option_map_or (λ o. Some refusal.Exists) (named board.objects name) (unless (nat_lt (length (live board.objects)) 65536) refusal.Full)
@@ -117,6 +131,10 @@ verdict board (edit.Place name other above) = known board name (λ o. known boar
 verdict board (edit.Clip name clipper) = known board name (λ o. known board clipper (clip_verdict board o))
 verdict board (edit.Unclip name) = known board name (λ o. None)
 verdict board (edit.Member name smart) = known board name (λ o. known board smart (join_verdict board o))
+verdict board (edit.Fill name x y w h) = known board name (image_verdict (is_fill x y w h))
+verdict board (edit.Filled name) = known board name (image_verdict true)
+verdict board (edit.Border name l r t b) = known board name (image_verdict (is_border l r t b))
+verdict board (edit.Center name on) = known board name (image_verdict true)
 verdict board (edit.Free name) = known board name (λ o. unless (not (is_clipping board o)) refusal.Clipping)
 verdict board other = None
 
@@ -214,6 +232,10 @@ effect board (edit.Clip name clipper) = with_named board name (λ o. with_named 
 effect board (edit.Unclip name) = with_named board name (changed (change.Clip None) board)
 effect board (edit.Member name smart) = with_named board name (λ o. with_named board smart (λ s. homed (Some s.id) board o))
 effect board (edit.Free name) = with_named board name (homed None board)
+effect board (edit.Fill name x y w h) = with_named board name (changed (change.Draw (drawing.Fill (fill_of x y w h))) board)
+effect board (edit.Filled name) = with_named board name (changed (change.Draw (drawing.Fill Filled)) board)
+effect board (edit.Border name l r t b) = with_named board name (changed (change.Draw (drawing.Border (border_of l r t b))) board)
+effect board (edit.Center name on) = with_named board name (changed (change.Draw (drawing.Center on)) board)
 effect board other = board
 
 -- an edit is refused by its first refusal; where there is none, memory may be wanting

@@ -1,11 +1,12 @@
 // Changes of one object, and new objects.
 ghost use Rattle.std.specs.Prelude.{◌≡◌, ◌&&◌, true, Some, None, IfSome, unsigned_abs, if◌then◌else◌};
 ghost use Rattle.ev_geom.specs.Area.{is_place, is_side};
-ghost use Rattle.ev_scene.specs.Change.{apply, is_between, is_layer, is_channel, are_channels, color_of, fresh, content_of, is_plain, IsFit, IsLook};
+ghost use Rattle.ev_scene.specs.Change.{apply, is_between, is_layer, is_channel, are_channels, color_of, fresh, content_of, is_made, IsFit, IsLook};
 
+use crate::drawing::{Drawing, draw};
 use ev_argb::Pixel;
 use ev_geom::{Rect, is_place, is_side};
-use ev_model::{Content, Kind, Name, Object, Op};
+use ev_model::{Border, Content, Fill, ImagePart, Kind, Name, Object, Op};
 
 // A change of one object. Its numbers are in range.
 #[derive(Drop)]
@@ -15,6 +16,7 @@ pub enum Change {
     Appear(bool),
     Paint(Pixel),
     Treat(Op),
+    Draw(Drawing),
     Lift(i64),
     Clip(Option<u64>),
     Enter(Option<u64>),
@@ -31,6 +33,7 @@ pub fn apply(change: &Change, object: &mut Object)
         Change::Appear(on) => object.shown = on,
         Change::Paint(color) => object.color = color,
         Change::Treat(op) => object.op = op,
+        Change::Draw(drawing) => draw(drawing, &mut object.content),
         Change::Lift(layer) => object.layer = layer as i32,
         Change::Clip(clipper) => object.clipper = clipper,
         Change::Enter(parent) => object.parent = parent,
@@ -112,9 +115,9 @@ pub fn is_layer(n: i64) -> bool
     is_between(-32_768, 32_767, n)
 }
 
-// A new rectangle or smart object.
+// A new object.
 pub fn fresh(id: u64, name: Name, kind: Kind) -> Object
-    requires { is_plain kind ≡ true }
+    requires { is_made kind ≡ true }
     ensures { result ≡ fresh id name kind }
 {
     Object {
@@ -131,14 +134,26 @@ pub fn fresh(id: u64, name: Name, kind: Kind) -> Object
     }
 }
 
-// The content of a new rectangle or smart object.
+// The content of a new object.
 fn content_of(kind: Kind) -> Content
-    requires { is_plain kind ≡ true }
+    requires { is_made kind ≡ true }
     ensures { result ≡ content_of kind }
 {
     match kind {
         Kind::Rect => Content::Rect,
         Kind::Smart => Content::Smart,
-        _ => unreachable!(),
+        Kind::Image => Content::Image(ImagePart {
+            key: None,
+            loaded: None,
+            fill: Fill::Filled,
+            border: Border {
+                l: 0,
+                r: 0,
+                t: 0,
+                b: 0,
+            },
+            center: true,
+        }),
+        Kind::Text => unreachable!(),
     }
 }

@@ -4,12 +4,13 @@ ghost use Rattle.std.specs.Option.{ForSome};
 ghost use Rattle.ev_model.specs.declared.command.Edit.TheVariants as edit;
 ghost use Rattle.ev_model.specs.declared.refusal.Refusal.TheVariants as refusal;
 ghost use Rattle.ev_scene.specs.Cast.{IsCast, board_of};
-ghost use Rattle.ev_scene.specs.Change.{IsLook, is_plain};
-ghost use Rattle.ev_scene.specs.Edits.{is_built, known, unless, with_named, changed, Refuses, Edits, writes};
+ghost use Rattle.ev_scene.specs.Change.{IsLook, is_made};
+ghost use Rattle.ev_scene.specs.Edits.{is_built, known, unless, image_verdict, with_named, changed, Refuses, Edits, writes};
 
 use crate::cast::Cast;
 use crate::change::{Change, fresh, is_between, paint, side};
-use ev_model::{Content, Edit, Kind, Name, Op, Refusal};
+use crate::drawing::{Drawing, border, fill};
+use ev_model::{Content, Edit, Fill, Kind, Name, Op, Refusal};
 
 /// How many objects may be there at a time.
 pub const MAX_OBJECTS: usize = 65_536;
@@ -40,6 +41,13 @@ impl Cast {
             Edit::Unclip { name } => self.unclip(name),
             Edit::Member { name, smart } => self.join(name, smart),
             Edit::Free { name } => self.leave(name),
+            Edit::Fill { name, x, y, w, h } => self.draw(name, &fill(*x, *y, *w, *h)),
+            Edit::Filled { name } => self.draw(
+                name,
+                &Some(Change::Draw(Drawing::Fill(Fill::Filled))),
+            ),
+            Edit::Border { name, l, r, t, b } => self.draw(name, &border(*l, *r, *t, *b)),
+            Edit::Center { name, on } => self.draw(name, &Some(Change::Draw(Drawing::Center(*on)))),
             _ => unreachable!(),
         }
     }
@@ -62,7 +70,7 @@ impl Cast {
     // A new object on top of layer 0.
     fn make(&mut self, name: &Name, kind: Kind) -> Result<(), Refusal>
         requires whole { IsCast self.old }
-        requires plain { is_plain kind ≡ true }
+        requires plain { is_made kind ≡ true }
         ensures whole { IsCast self.new }
         ensures edits { Edits (board_of self.old) (edit.Make name.now kind) result (board_of self.new) }
         ensures made { self.new.roll.made ≤ self.old.roll.made + 1 }
@@ -128,6 +136,32 @@ impl Cast {
         }
         let id = object.id;
         self.roll.change(id, &Change::Treat(op))?;
+        Ok(())
+    }
+
+    // Changes how an image object draws its image. No change stands for numbers out of range.
+    fn draw(&mut self, name: &Name, change: &Option<Change>) -> Result<(), Refusal>
+        requires whole { IsCast self.old }
+        requires look { ForSome change.now IsLook }
+        ensures whole { IsCast self.new }
+        ensures ok { OnOk result ((known (board_of self.old) name.now (image_verdict (is_some change.now)) ≡ None)
+            × IfSome change.now (λ c. board_of self.new ≡ with_named (board_of self.old) name.now (changed c (board_of self.old)))) }
+        ensures err { IfErr result (λ cause. Refuses (known (board_of self.old) name.now (image_verdict (is_some change.now))) cause
+            × (board_of self.new ≡ board_of self.old)) }
+        ensures made { self.new.roll.made ≤ self.old.roll.made + 1 }
+        ensures grows { self.old.roll.made ≤ self.new.roll.made }
+    {
+        let Some(object) = self.roll.named(name) else {
+            return Err(Refusal::Unknown);
+        };
+        if !matches!(object.content, Content::Image(_)) {
+            return Err(Refusal::Kind);
+        }
+        let id = object.id;
+        let Some(change) = change else {
+            return Err(Refusal::Range);
+        };
+        self.roll.change(id, change)?;
         Ok(())
     }
 }

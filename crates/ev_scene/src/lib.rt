@@ -5,6 +5,7 @@ mod capture;
 mod cast;
 mod change;
 mod delete;
+mod drawing;
 mod edit;
 mod label;
 mod linking;

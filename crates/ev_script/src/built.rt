@@ -9,7 +9,7 @@ pub fn is_built(edit: &Edit) -> bool
     ensures { result ≡ is_built edit.now }
 {
     match edit {
-        Edit::Make { kind, .. } => matches!(*kind, Kind::Rect | Kind::Smart),
+        Edit::Make { kind, .. } => !matches!(*kind, Kind::Text),
         Edit::Size { .. }
         | Edit::Delete { .. }
         | Edit::Move { .. }
@@ -23,7 +23,11 @@ pub fn is_built(edit: &Edit) -> bool
         | Edit::Clip { .. }
         | Edit::Unclip { .. }
         | Edit::Member { .. }
-        | Edit::Free { .. } => true,
+        | Edit::Free { .. }
+        | Edit::Fill { .. }
+        | Edit::Filled { .. }
+        | Edit::Border { .. }
+        | Edit::Center { .. } => true,
         _ => false,
     }
 }

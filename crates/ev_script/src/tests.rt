@@ -54,8 +54,8 @@ const RED: &[u8] = b"size 2 1\nrect r\nresize r 2 1\ncolor r 255 0 0 255\nshow r
 
 // Scripts and their logs: a red rectangle; nothing; half red over white, and nearly opaque red over white;
 // a copy of nothing; raised and lowered rectangles and their totals; clippers over clippers; a group that is
-// moved, hidden and deleted; each kind of bad line; refusals.
-const LOGS: [(&[u8], &[u8]); 10] = [
+// moved, hidden and deleted; what ties refuse; an image without pixels; each kind of bad line; refusals.
+const LOGS: [(&[u8], &[u8]); 11] = [
     (RED, b"shown 1 2 1 1\nupdate 0 0 2 1\nffff0000 ffff0000\n"),
     (b"", b""),
     (
@@ -80,10 +80,14 @@ const LOGS: [(&[u8], &[u8]); 10] = [
     ),
     (
         b"rect a\nrect b\nclip a a\nclip a b\nclip b a\nsmart s\nmember a s\nmember s a\nlayer b 1\nabove a b\nrect a\nshow z\nfill a 0 0 1 1\nimage i\nload i\ncancel i\nfree b\ndump\n",
-        b"refused itself 3\nrefused cycle 5\nrefused clipping 7\nrefused kind 8\nrefused layer 10\nrefused exists 11\nrefused unknown 12\nbad word 13\nbad word 14\nbad word 15\nbad word 16\nrefused clipping 17\nrefused none 18\n",
+        b"refused itself 3\nrefused cycle 5\nrefused clipping 7\nrefused kind 8\nrefused layer 10\nrefused exists 11\nrefused unknown 12\nrefused kind 13\nbad word 15\nbad word 16\nrefused clipping 17\nrefused none 18\n",
     ),
     (
-        b"rect r\nmove r 1000001 0\nmove r 1000000 0\nmove r 01 0\nmove r 1\nmvoe r\nshow .r\n\n  \n # hm\nop r melt\n#\xc3\nsay r  \nimage i\n",
+        b"image i\nresize i 2 1\nshow i\nfill i -1 0 0 1\nfill i -1 0 1 1\nborder i 0 4097 0 0\nborder i 1 0 1 4096\ncenter i off\nfilled i\nfilled j\nfill r 0 0 1 1\nrect r\nborder r 0 0 0 0\ncenter r on\nop i copy\nsize 1 1\nrender\ndump\n",
+        b"refused range 4\nrefused range 6\nrefused unknown 10\nrefused unknown 11\nrefused kind 13\nrefused kind 14\nshown 1 1 1 1\nupdate 0 0 1 1\n00000000\n",
+    ),
+    (
+        b"rect r\nmove r 1000001 0\nmove r 1000000 0\nmove r 01 0\nmove r 1\nmvoe r\nshow .r\n\n  \n # hm\nop r melt\n#\xc3\nsay r  \ntext i\n",
         b"refused range 2\nbad number 4\nbad count 5\nbad word 6\nbad name 7\nbad word 11\nbad byte 12\nbad word 13\nbad word 14\n",
     ),
     (

@@ -3,10 +3,11 @@ use Rattle.std.proofs.lemmas.Int.{to_z-of_z}
 use Rattle.ev_geom.specs.Area.{is_side}
 use Rattle.ev_model.specs.declared.command.Edit.{Edit}
 use Rattle.ev_scene.specs.Cast.{board_of}
-use Rattle.ev_scene.specs.Change.{are_channels, color_of}
+use Rattle.ev_scene.specs.Change.{are_channels, color_of, is_fill, fill_of, is_border, border_of}
 use Rattle.ev_scene.specs.Edits.{Edits}
 use Rattle.ev_scene.specs.declared.change.Change.TheVariants as change
-use Rattle.ev_scene.proofs.Answering.{change_answers}
+use Rattle.ev_scene.specs.declared.drawing.Drawing.TheVariants as drawing
+use Rattle.ev_scene.proofs.Answering.{change_answers, draw_answers}
 use Rattle.ev_scene.proofs.cast.Cast.edit.Goals as goal
 
 pub returns-in-Move-clause-edits : goal.returns-in-Move-clause-edits
@@ -39,3 +40,23 @@ returns-in-Layer-clause-edits c =
     let layer : FitsSigned w64 c.in-Layer.layer = search rules in
     let P : Edit → Type 0 = λ edit. Edits (board_of c.args.self.now) edit c.relayer.result (board_of c.relayer.new.self) in
     subst P (sym c.in-Layer.is) (simp to_z-of_z at c.relayer.ensures.edits)
+
+pub returns-in-Fill-clause-edits : goal.returns-in-Fill-clause-edits
+returns-in-Fill-clause-edits c =
+    let x : FitsSigned w64 c.in-Fill.x = search rules in
+    let y : FitsSigned w64 c.in-Fill.y = search rules in
+    let w : FitsSigned w64 c.in-Fill.w = search rules in
+    let h : FitsSigned w64 c.in-Fill.h = search rules in
+    let P : Edit → Type 0 = λ edit. Edits (board_of c.args.self.now) edit c.draw.result (board_of c.draw.new.self) in
+    subst P (sym c.in-Fill.is) (draw_answers (board_of c.args.self.now) c.in-Fill.name (is_fill c.in-Fill.x c.in-Fill.y c.in-Fill.w c.in-Fill.h) (change.Draw (drawing.Fill (fill_of c.in-Fill.x c.in-Fill.y c.in-Fill.w c.in-Fill.h)))
+    c.fill.result c.draw.result (board_of c.draw.new.self) (simp to_z-of_z at c.fill.ensures.value) c.draw.ensures.ok c.draw.ensures.err)
+
+pub returns-in-Border-clause-edits : goal.returns-in-Border-clause-edits
+returns-in-Border-clause-edits c =
+    let l : FitsSigned w64 c.in-Border.l = search rules in
+    let r : FitsSigned w64 c.in-Border.r = search rules in
+    let t : FitsSigned w64 c.in-Border.t = search rules in
+    let b : FitsSigned w64 c.in-Border.b = search rules in
+    let P : Edit → Type 0 = λ edit. Edits (board_of c.args.self.now) edit c.draw-in-Border.result (board_of c.draw-in-Border.new.self) in
+    subst P (sym c.in-Border.is) (draw_answers (board_of c.args.self.now) c.in-Border.name (is_border c.in-Border.l c.in-Border.r c.in-Border.t c.in-Border.b) (change.Draw (drawing.Border (border_of c.in-Border.l c.in-Border.r c.in-Border.t c.in-Border.b)))
+    c.border.result c.draw-in-Border.result (board_of c.draw-in-Border.new.self) (simp to_z-of_z at c.border.ensures.value) c.draw-in-Border.ensures.ok c.draw-in-Border.ensures.err)
