@@ -1,0 +1,5 @@
+pub mod Runs
+pub mod Turns
+pub mod Places
+pub mod Stretched
+pub mod Images
