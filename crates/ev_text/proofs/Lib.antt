@@ -1,0 +1,4 @@
+pub mod Four
+pub mod Spellings
+pub mod Runs
+pub mod Texts

@@ -1,0 +1,15 @@
+// What the format promises by itself.
+ghost use Rattle.std.specs.Prelude.{◌≡◌, ℕ, List, Ok};
+ghost use Rattle.ev_model.specs.Glyphs.{Glyphs, IsFont};
+ghost use Rattle.ev_text.specs.Format.{Stands, spelling};
+ghost use Rattle.ev_text.specs.Reading.{font_at};
+
+/// A law: bytes stand for one font at most.
+pub fn one_font()
+    ensures { (bytes : List ℕ) (a b : Glyphs) → Stands bytes a → Stands bytes b → a ≡ b }
+{}
+
+/// A law: the spelling of a font is read as that font.
+pub fn read_again()
+    ensures { (font : Glyphs) → IsFont font → font_at (spelling font) ≡ Ok font }
+{}
