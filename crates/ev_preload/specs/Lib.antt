@@ -1,0 +1,4 @@
+pub mod Job
+pub mod Ends
+pub mod Faults
+pub mod Loads
