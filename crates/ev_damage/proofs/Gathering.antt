@@ -1,0 +1,104 @@
+-- Loops over records.
+use Rattle.std.proofs.Common.{◌≡◌, ◌≢◌, ℕ, ◌+◌, ◌<◌, ℤ, Bool, true, false, not, ◌&&◌, ◌||◌, ◌==◌, is_some, List, [], ◌∷◌, ◌++◌, map, filter_map, length, get_or, take, Option, Some, None, refl, sym, ap, ◌∙◌, arith, cond, nat_eq, IfSome}
+use Rattle.std.proofs.lemmas.Bool.{eqb-true, ne_eqb}
+use Rattle.std.proofs.lemmas.Grind.{common_steps}
+use Rattle.std.specs.HashMap.{HashMap, get}
+use Rattle.std.proofs.lemmas.List.{take_more, map-append, take-map}
+use Rattle.std.proofs.lemmas.List.Folds.{list_any-append, list_any_none}
+use Rattle.std.specs.List.{list_any, cons_option, position_from}
+use Rattle.ev_geom.specs.Area.{Area, holds}
+use Rattle.ev_geom.specs.Bands.{has_pixel, IsBandsOf}
+use Rattle.ev_model.specs.Look.{Look, look_of}
+use Rattle.ev_model.specs.declared.scene.Record.{Record}
+use Rattle.ev_damage.specs.Same.{same_look}
+use Rattle.ev_damage.specs.Damage.{is_kept, in_unkept}
+use Rattle.ev_damage.specs.Places.{place_of, place_of_id, placed, Adds, IsIndex, HaveOwnIds}
+use Rattle.ev_damage.specs.declared.turned.Placed.{Placed}
+use Rattle.ev_damage.proofs.Adding.{adds_none, adds_rect, adds_both}
+use Rattle.ev_damage.proofs.Placing.{some_is, apart, record_at, found_in_map}
+use Rattle.ev_damage.proofs.Members.{neither}
+
+-- the looks of one more record
+looks_more : (rs : List Record) (i : ℕ) (r : Record) → i < length rs → r ≡ get_or rs i r → map look_of (take (i + 1) rs) ≡ map look_of (take i rs) ++ look_of r ∷ []
+looks_more rs i r inside is = ap (map look_of) (take_more rs i r inside ∙ ap (λ s. take i rs ++ s ∷ []) (sym is)) ∙ map-append look_of (take i rs) (r ∷ [])
+
+or_false : (b : Bool) → (b || false) ≡ b
+or_false true = refl
+or_false false = refl
+
+kept_is_placed : (others : List Look) (l : Look) (b : Bool) → is_some (place_of others l) ≡ b → is_kept others l ≡ b
+kept_is_placed others l b e = sym (some_is (λ m. m.id == l.id && same_look l m) 0 others) ∙ e
+
+-- the unkept ones with one more
+unkept_more : (others : List Look) (rs : List Record) (i : ℕ) (r : Record) (x y : ℤ) → i < length rs → r ≡ get_or rs i r
+    → (in_unkept others (map look_of (take i rs)) x y || (not (is_kept others (look_of r)) && holds r.area x y)) ≡ in_unkept others (map look_of (take (i + 1) rs)) x y
+unkept_more others rs i r x y inside is =
+    let p : Look → Bool = λ l. not (is_kept others l) && holds l.area x y in
+    sym (ap (λ ls. list_any p ls) (looks_more rs i r inside is) ∙ list_any-append p (map look_of (take i rs)) (look_of r ∷ []) ∙ ap (λ t. list_any p (map look_of (take i rs)) || t) (or_false (p (look_of r))))
+
+pub unkept_added : (others : List Look) (rs : List Record) (i : ℕ) (r : Record) (old now new : List Area) → Adds (in_unkept others (map look_of (take i rs))) old now → i < length rs → r ≡ get_or rs i r
+    → is_some (place_of others (look_of r)) ≡ false → IsBandsOf (λ x y. has_pixel now x y || holds r.area x y) new → Adds (in_unkept others (map look_of (take (i + 1) rs))) old new
+unkept_added others rs i r old now new so_far inside is none bands =
+    adds_both (in_unkept others (map look_of (take i rs))) (λ x y. not (is_kept others (look_of r)) && holds r.area x y) (in_unkept others (map look_of (take (i + 1) rs))) old now new so_far
+    (adds_rect (λ x y. not (is_kept others (look_of r)) && holds r.area x y) now new r.area bands (λ x y. sym (ap (λ t. not t && holds r.area x y) (kept_is_placed others (look_of r) false none))))
+    (λ x y. unkept_more others rs i r x y inside is)
+
+pub unkept_passed : (others : List Look) (rs : List Record) (i : ℕ) (r : Record) (old now : List Area) → Adds (in_unkept others (map look_of (take i rs))) old now → i < length rs → r ≡ get_or rs i r
+    → is_some (place_of others (look_of r)) ≡ true → Adds (in_unkept others (map look_of (take (i + 1) rs))) old now
+unkept_passed others rs i r old now so_far inside is some =
+    adds_both (in_unkept others (map look_of (take i rs))) (λ x y. not (is_kept others (look_of r)) && holds r.area x y) (in_unkept others (map look_of (take (i + 1) rs))) old now now so_far
+    (adds_none (λ x y. not (is_kept others (look_of r)) && holds r.area x y) now (λ x y. ap (λ t. not t && holds r.area x y) (kept_is_placed others (look_of r) true some)))
+    (λ x y. unkept_more others rs i r x y inside is)
+
+filter_map-append : {X Y : Type 0} (f : X → Option Y) (xs ys : List X) → filter_map f (xs ++ ys) ≡ filter_map f xs ++ filter_map f ys
+filter_map-append f [] ys = refl
+filter_map-append f (x ∷ xs) ys = ap (cons_option (f x)) (filter_map-append f xs ys) ∙ go (f x) (filter_map f xs) (filter_map f ys) where
+  go : {Y : Type 0} (o : Option Y) (a b : List Y) → cons_option o (a ++ b) ≡ cons_option o a ++ b
+  go None a b = refl
+  go (Some y) a b = refl
+
+pub placed_more : (others : List Look) (rs : List Record) (i : ℕ) (r : Record) (now new : List Placed) → now ≡ filter_map (placed others) (map look_of (take i rs)) → i < length rs → r ≡ get_or rs i r
+    → new ≡ now ++ cons_option (placed others (look_of r)) [] → new ≡ filter_map (placed others) (map look_of (take (i + 1) rs))
+placed_more others rs i r now new so_far inside is e =
+    e ∙ ap (λ ps. ps ++ cons_option (placed others (look_of r)) []) so_far
+    ∙ sym (ap (filter_map (placed others)) (looks_more rs i r inside is) ∙ filter_map-append (placed others) (map look_of (take i rs)) (look_of r ∷ []))
+
+-- the first place, with one more element
+last_fails : {X : Type 0} (p : X → Bool) (n : ℕ) (xs : List X) (x : X) → p x ≡ false → position_from p n (xs ++ x ∷ []) ≡ position_from p n xs
+last_fails p n [] x e = rw e refl
+last_fails p n (y ∷ xs) x e = ap (λ o. cond (p y) (Some n) o) (last_fails p (n + 1) xs x e)
+
+last_passes : {X : Type 0} (p : X → Bool) (n : ℕ) (xs : List X) (x : X) → list_any p xs ≡ false → p x ≡ true → position_from p n (xs ++ x ∷ []) ≡ Some (n + length xs)
+last_passes p n [] x h e = rw e (ap Some (omega arith))
+last_passes p n (y ∷ xs) x h e = let r = neither (p y) (list_any p xs) h in rw r.0 (last_passes p (n + 1) xs x r.1 e ∙ ap Some (omega arith))
+
+front_at : (ls : List Look) (i k : ℕ) (d : Look) → k < i → get_or (take i ls) k d ≡ get_or ls k d
+front_at ls i k d low = grind (arith, common_steps)
+
+any_default : (ls : List Look) (k : ℕ) (d u : Look) → k < length ls → get_or ls k d ≡ get_or ls k u
+any_default ls k d u inside = grind (arith, common_steps)
+
+-- a place that is found lies within
+pub within_if : (others : List Record) (id : ℕ) (found : Option ℕ) → found ≡ place_of_id (map look_of others) id → IfSome found (λ at. at < length others)
+within_if others id None e = tt
+within_if others id (Some at) e = found_in_map others id at (sym e)
+
+-- the index with one more record
+pub index_more : {S : Type 0} (rs : List Record) (i : ℕ) (r : Record) (old new : HashMap ℕ ℕ S) → HaveOwnIds (map look_of rs) → IsIndex old (map look_of (take i rs)) → i < length rs → r ≡ get_or rs i r
+    → ((q : ℕ) → get nat_eq new q ≡ cond (nat_eq r.id q) (Some i) (get nat_eq old q)) → IsIndex new (map look_of (take (i + 1) rs))
+index_more rs i r old new own so_far inside is put = record { places = λ q. put q ∙ go q (nat_eq r.id q) refl } where
+  size : length (map look_of (take i rs)) ≡ i
+  size = grind (arith, common_steps)
+
+  none : (q : ℕ) → r.id ≡ q → list_any (λ l. l.id == q) (map look_of (take i rs)) ≡ false
+  none q e = list_any_none (λ l. l.id == q) (map look_of (take i rs)) (λ k d l.
+      (let low : k < i = omega (arith, l, size) in
+      let here : get_or (map look_of (take i rs)) k d ≡ get_or (map look_of rs) k d = ap (λ ls. get_or ls k d) (sym (take-map look_of i rs)) ∙ front_at (map look_of rs) i k d low in
+      let long : i < length (map look_of rs) = grind (arith, common_steps, inside) in
+      let last : get_or (map look_of rs) i d ≡ look_of r = any_default (map look_of rs) i d (look_of r) long ∙ record_at rs i r ∙ ap look_of (sym is) in
+      let other : (get_or (map look_of rs) k d).id ≢ (get_or (map look_of rs) i d).id = apart (map look_of rs) k i d own low long in
+      ne_eqb (get_or (map look_of (take i rs)) k d).id q (λ s. other (ap (λ l. l.id) (sym here) ∙ s ∙ sym e ∙ ap (λ l. l.id) (sym last)))))
+
+  go : (q : ℕ) (b : Bool) → nat_eq r.id q ≡ b → cond b (Some i) (get nat_eq old q) ≡ place_of_id (map look_of (take (i + 1) rs)) q
+  go q true e = sym (ap (λ ls. place_of_id ls q) (looks_more rs i r inside is) ∙ last_passes (λ l. l.id == q) 0 (map look_of (take i rs)) (look_of r) (none q (eqb-true r.id q e)) e ∙ ap Some (omega (arith, size)))
+  go q false e = so_far.places q ∙ sym (ap (λ ls. place_of_id ls q) (looks_more rs i r inside is) ∙ last_fails (λ l. l.id == q) 0 (map look_of (take i rs)) (look_of r) e)

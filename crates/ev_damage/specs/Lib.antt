@@ -1,0 +1,5 @@
+pub mod Same
+pub mod Damage
+pub mod Stay
+pub mod Places
+pub mod Small

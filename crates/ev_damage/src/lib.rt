@@ -1,0 +1,14 @@
+//! Which pixels may look different in another scene: the damage between two lists of records.
+#![tactic(auto)]
+
+mod damage;
+mod laws;
+mod places;
+mod same;
+#[cfg(test)]
+mod tests;
+mod turned;
+
+pub use damage::between;
+pub use ev_region::NoMemory;
+pub use laws::{equal_looks_pass, undamaged_pixels_stay};
