@@ -4,7 +4,7 @@ use Rattle.std.proofs.lemmas.Bool.{eqb-true, eq-eqb, ne_eqb, lt-ltb, le-ltb, cas
 use Rattle.std.proofs.lemmas.List.Folds.{list_any_at}
 use Rattle.std.specs.List.{list_any, cons_option}
 use Rattle.ev_geom.specs.Area.{Area, holds}
-use Rattle.ev_geom.specs.Bands.{has_pixel, IsBanded, IsBandsOf, FitsRegion}
+use Rattle.ev_geom.specs.Bands.{has_pixel, IsBandsOf, FitsRegion}
 use Rattle.ev_model.specs.Look.{Look, look_of}
 use Rattle.ev_model.specs.declared.scene.Record.{Record}
 use Rattle.ev_damage.specs.Same.{same_look}
@@ -159,10 +159,9 @@ places_fit others [] h k d l = absurd (omega (arith, l))
 places_fit others (r ∷ rs) h k d l = fits_step others (look_of r) (filter_map (placed others) (map look_of rs)) (place_of others (look_of r)) (h 0 r (omega arith)) (places_fit others rs (λ k d l. h (suc k) d (omega (arith, l)))) k d l
 
 -- all damage
-pub all_damage : (old new : List Look) (r0 r1 r2 r3 : List Area) → HaveOwnIds new → r0 ≡ [] → Adds (in_unkept new old) r0 r1 → Adds (in_unkept old new) r1 r2 → Adds (in_turned (filter_map (placed new) old)) r2 r3 → IsBandsOf (is_damaged old new) r3
-all_damage old new r0 r1 r2 r3 own e a b c =
-    let empty : IsBanded [] = record { bands = []; canonical = refl; listed = refl } in
-    record {
-      pixels = λ x y. c.pixels x y ∙ ap₂ ◌||◌ (b.pixels x y ∙ ap (λ t. t || in_unkept old new x y) (a.pixels x y ∙ ap (λ r. has_pixel r x y || in_unkept new old x y) e)) (sym (crossed_is_turned new old x y own));
-      banded = c.banded (b.banded (a.banded (rw e empty)));
-    }
+pub all_damage : (old new : List Look) (r1 r2 both r3 : List Area) → HaveOwnIds new → IsBandsOf (in_unkept new old) r1 → IsBandsOf (in_unkept old new) r2 → IsBandsOf (λ x y. has_pixel r1 x y || has_pixel r2 x y) both
+    → Adds (in_turned (filter_map (placed new) old)) both r3 → IsBandsOf (is_damaged old new) r3
+all_damage old new r1 r2 both r3 own a b u c = record {
+  pixels = λ x y. c.pixels x y ∙ ap₂ ◌||◌ (u.pixels x y ∙ ap₂ ◌||◌ (a.pixels x y) (b.pixels x y)) (sym (crossed_is_turned new old x y own));
+  banded = c.banded u.banded;
+}

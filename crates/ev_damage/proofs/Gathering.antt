@@ -1,13 +1,14 @@
 -- Loops over records.
-use Rattle.std.proofs.Common.{◌≡◌, ◌≢◌, ℕ, ◌+◌, ◌<◌, ℤ, Bool, true, false, not, ◌&&◌, ◌||◌, ◌==◌, is_some, List, [], ◌∷◌, ◌++◌, map, filter_map, length, get_or, take, Option, Some, None, refl, sym, ap, ◌∙◌, arith, cond, nat_eq, IfSome}
+use Rattle.std.proofs.Common.{◌≡◌, ◌≢◌, ℕ, ◌+◌, ◌<◌, ℤ, Bool, true, false, not, ◌&&◌, ◌||◌, ◌==◌, is_some, List, [], ◌∷◌, ◌++◌, map, filter_map, length, get_or, take, drop, take-append-drop, All, subst, ap₂, Option, Some, None, refl, sym, ap, ◌∙◌, arith, cond, nat_eq, IfSome}
 use Rattle.std.proofs.lemmas.Bool.{eqb-true, ne_eqb}
 use Rattle.std.proofs.lemmas.Grind.{common_steps}
 use Rattle.std.specs.HashMap.{HashMap, get}
 use Rattle.std.proofs.lemmas.List.{take_more, map-append, take-map}
 use Rattle.std.proofs.lemmas.List.Folds.{list_any-append, list_any_none}
+use Rattle.std.proofs.lemmas.List.Elements.{All-drop}
 use Rattle.std.specs.List.{list_any, cons_option, position_from}
 use Rattle.ev_geom.specs.Area.{Area, holds}
-use Rattle.ev_geom.specs.Bands.{has_pixel, IsBandsOf}
+use Rattle.ev_geom.specs.Bands.{has_pixel, FitsRegion, IsBanded, IsBandsOf}
 use Rattle.ev_model.specs.Look.{Look, look_of}
 use Rattle.ev_model.specs.declared.scene.Record.{Record}
 use Rattle.ev_damage.specs.Same.{same_look}
@@ -102,3 +103,26 @@ index_more rs i r old new own so_far inside is put = record { places = λ q. put
   go : (q : ℕ) (b : Bool) → nat_eq r.id q ≡ b → cond b (Some i) (get nat_eq old q) ≡ place_of_id (map look_of (take (i + 1) rs)) q
   go q true e = sym (ap (λ ls. place_of_id ls q) (looks_more rs i r inside is) ∙ last_passes (λ l. l.id == q) 0 (map look_of (take i rs)) (look_of r) (none q (eqb-true r.id q e)) e ∙ ap Some (omega (arith, size)))
   go q false e = so_far.places q ∙ sym (ap (λ ls. place_of_id ls q) (looks_more rs i r inside is) ∙ last_fails (λ l. l.id == q) 0 (map look_of (take i rs)) (look_of r) e)
+
+-- what was added to nothing
+pub alone : (more : ℤ → ℤ → Bool) (old new : List Area) → old ≡ [] → Adds more old new → IsBandsOf more new
+alone more old new e adds =
+    let none : IsBanded [] = record { bands = []; canonical = refl; listed = refl } in
+    record {
+      pixels = λ x y. adds.pixels x y ∙ ap (λ r. has_pixel r x y || more x y) e;
+      banded = adds.banded (rw e none);
+    }
+
+-- the areas of two halves
+pub halves : (others : List Look) (rs front back : List Record) (n : ℕ) (a b new : List Area) → front ≡ take n rs → back ≡ drop n rs
+    → IsBandsOf (in_unkept others (map look_of front)) a → IsBandsOf (in_unkept others (map look_of back)) b → IsBandsOf (λ x y. has_pixel a x y || has_pixel b x y) new → IsBandsOf (in_unkept others (map look_of rs)) new
+halves others rs front back n a b new f g one two both = record { pixels = λ x y. both.pixels x y ∙ ap₂ ◌||◌ (one.pixels x y) (two.pixels x y) ∙ joined x y; banded = both.banded } where
+  whole : map look_of front ++ map look_of back ≡ map look_of rs
+  whole = sym (map-append look_of front back) ∙ ap (map look_of) (ap₂ ◌++◌ f g ∙ take-append-drop n rs)
+
+  joined : (x y : ℤ) → (in_unkept others (map look_of front) x y || in_unkept others (map look_of back) x y) ≡ in_unkept others (map look_of rs) x y
+  joined x y = sym (list_any-append (λ l. not (is_kept others l) && holds l.area x y) (map look_of front) (map look_of back)) ∙ ap (λ ls. in_unkept others ls x y) whole
+
+-- the upper half still fits
+pub fit_above : (rs back : List Record) (n : ℕ) → back ≡ drop n rs → All (λ r. FitsRegion r.area) rs → All (λ r. FitsRegion r.area) back
+fit_above rs back n e fit = let P : List Record → Type 0 = All (λ r. FitsRegion r.area) in subst P (sym e) (All-drop (λ r. FitsRegion r.area) n rs fit)

@@ -5,7 +5,7 @@ ghost use Rattle.ev_model.specs.Look.{look_of};
 ghost use Rattle.ev_damage.specs.Damage.{is_damaged};
 ghost use Rattle.ev_damage.specs.Places.{HaveOwnIds};
 
-use crate::places::{add_unkept, index_of, placed};
+use crate::places::{index_of, placed, unkept};
 use crate::turned::add_turned;
 use ev_model::Record;
 use ev_region::{NoMemory, Region};
@@ -22,11 +22,11 @@ pub fn between(alloc: Global, old: &[Record], new: &[Record]) -> Result<Region, 
     requires new_areas { All (λ r. FitsRegion r.area) new.now }
     ensures { IfOk result (λ region. IsBandsOf (is_damaged (map look_of old.now) (map look_of new.now)) region) }
 {
-    let mut region = Region::new(alloc);
     let in_old = index_of(alloc, old)?;
     let in_new = index_of(alloc, new)?;
-    add_unkept(&mut region, old, new, &in_new)?;
-    add_unkept(&mut region, new, old, &in_old)?;
+    let mut region = unkept(alloc, old, new, &in_new)?;
+    let other = unkept(alloc, new, old, &in_old)?;
+    region.unite(&other)?;
     let kept = placed(alloc, old, new, &in_new)?;
     add_turned(alloc, &mut region, &kept)?;
     Ok(region)

@@ -1,6 +1,6 @@
 // Where records stand in another list.
 ghost use Rattle.std.specs.Prelude.{◌≡◌, ◌<◌, map, filter_map, length, All, IfSome, IfOk, OnOk};
-ghost use Rattle.ev_geom.specs.Bands.{FitsRegion};
+ghost use Rattle.ev_geom.specs.Bands.{FitsRegion, IsBandsOf};
 ghost use Rattle.ev_model.specs.Look.{look_of};
 ghost use Rattle.ev_damage.specs.Damage.{in_unkept};
 ghost use Rattle.ev_damage.specs.Places.{HaveOwnIds, IsIndex, place_of_id, place_of, placed, Adds};
@@ -67,8 +67,36 @@ pub(crate) fn placed(
     Ok(placed)
 }
 
+// So few areas are added one by one.
+const FEW: usize = 16;
+
+// The areas of the records that have no equal one of the same object. Halves are united, so that n
+// areas take time in proportion to n times the logarithm of n.
+pub(crate) fn unkept(
+    alloc: Global,
+    records: &[Record],
+    others: &[Record],
+    index: &HashMap<u64, usize>,
+) -> Result<Region, NoMemory>
+    requires own { HaveOwnIds (map look_of others.now) }
+    requires index { IsIndex index.now (map look_of others.now) }
+    requires areas { All (λ r. FitsRegion r.area) records.now }
+    ensures { IfOk result (IsBandsOf (in_unkept (map look_of others.now) (map look_of records.now))) }
+{
+    if records.len() <= FEW {
+        let mut region = Region::new(alloc);
+        add_unkept(&mut region, records, others, index)?;
+        return Ok(region);
+    }
+    let (lower, upper) = records.split_at(records.len() / 2);
+    let mut region = unkept(alloc, lower, others, index)?;
+    let rest = unkept(alloc, upper, others, index)?;
+    region.unite(&rest)?;
+    Ok(region)
+}
+
 // Adds the areas of the records that have no equal one of the same object.
-pub(crate) fn add_unkept(
+fn add_unkept(
     region: &mut Region,
     records: &[Record],
     others: &[Record],
