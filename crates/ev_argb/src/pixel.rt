@@ -46,7 +46,8 @@ impl Pixel {
         let r = (bits >> 16) & 0xff;
         let g = (bits >> 8) & 0xff;
         let b = bits & 0xff;
-        if r <= a && g <= a && b <= a {
+        // every comparison is made, so that a row of pixels is checked without a branch for each
+        if (r <= a) & (g <= a) & (b <= a) {
             Some(Pixel { bits })
         } else {
             None

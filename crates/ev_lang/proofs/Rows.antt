@@ -5,40 +5,40 @@ use Rattle.std.proofs.lemmas.Grind.{flat_map-append}
 use Rattle.std.proofs.lemmas.Bool.Decides.{nat_tests}
 use Rattle.ev_argb.specs.Argb.{Argb}
 use Rattle.ev_port.specs.Told.{GrowsBy, GrowsPart, grows_on, grows_by_none, part_of_front, whole_then_part}
-use Rattle.ev_model.specs.Text.{pixel_text, pixels_text}
-use Rattle.ev_lang.specs.Parts.{place_text, IsLaid}
+use Rattle.ev_model.specs.Text.{place_text, places_text}
+use Rattle.ev_lang.specs.Parts.{column_text, IsLaid}
 
 -- all columns but the first have a space
-later : (x : ℕ) (p : Argb) → 0 < x → place_text x p ≡ 32 ∷ pixel_text p
+later : (x : ℕ) (p : Option Argb) → 0 < x → column_text x p ≡ 32 ∷ place_text p
 later x p above = grind (arith, nat_tests)
 
 -- one more pixel of a row
-pub pixels_more : (ps : List Argb) (i : ℕ) (d : Argb) → i < length ps → pixels_text (take (i + 1) ps) ≡ pixels_text (take i ps) ++ place_text i (get_or ps i d)
+pub pixels_more : (ps : List (Option Argb)) (i : ℕ) (d : Option Argb) → i < length ps → places_text (take (i + 1) ps) ≡ places_text (take i ps) ++ column_text i (get_or ps i d)
 pixels_more [] i d below = absurd (omega arith)
-pixels_more (p ∷ ps) zero d below = append-nil (pixel_text p)
+pixels_more (p ∷ ps) zero d below = append-nil (place_text p)
 pixels_more (p ∷ ps) (suc i) d below =
     let within : i < length ps = omega arith in
-    let spaced : Argb → List ℕ = λ q. 32 ∷ pixel_text q in
+    let spaced : Option Argb → List ℕ = λ q. 32 ∷ place_text q in
     let last = get_or ps i d in
     let front = flat_map spaced (take i ps) in
     let here : suc i ≡ i + 1 = omega arith in
-    let step : flat_map spaced (take (suc i) ps) ≡ front ++ place_text (suc i) last =
+    let step : flat_map spaced (take (suc i) ps) ≡ front ++ column_text (suc i) last =
     ap (λ k. flat_map spaced (take k ps)) here
     ∙ ap (flat_map spaced) (take_more ps i d within)
     ∙ flat_map-append spaced (take i ps) (last ∷ [])
     ∙ ap (λ t. front ++ t) (append-nil (spaced last) ∙ sym (later (suc i) last (omega arith))) in
-    rw add-one (ap (λ t. pixel_text p ++ t) step)
+    rw add-one (ap (λ t. place_text p ++ t) step)
 
 -- the first pixels of a row begin its text
-pub pixels_front : (ps : List Argb) (i : ℕ) (end : List ℕ) → (rest : List ℕ) × (pixels_text ps ++ end ≡ pixels_text (take i ps) ++ rest)
-pixels_front ps zero end = (pixels_text ps ++ end, refl)
+pub pixels_front : (ps : List (Option Argb)) (i : ℕ) (end : List ℕ) → (rest : List ℕ) × (places_text ps ++ end ≡ places_text (take i ps) ++ rest)
+pixels_front ps zero end = (places_text ps ++ end, refl)
 pixels_front [] (suc i) end = (end, refl)
 pixels_front (p ∷ ps) (suc i) end =
-    let spaced : Argb → List ℕ = λ q. 32 ∷ pixel_text q in
+    let spaced : Option Argb → List ℕ = λ q. 32 ∷ place_text q in
     let front = flat_map spaced (take i ps) in
     let back = flat_map spaced (drop i ps) in
     let parts : flat_map spaced ps ≡ front ++ back = ap (flat_map spaced) (sym (take-append-drop i ps)) ∙ flat_map-append spaced (take i ps) (drop i ps) in
-    (back ++ end, ap (λ t. (pixel_text p ++ t) ++ end) parts ∙ ap (λ t. t ++ end) (sym (append_assoc (pixel_text p) front back)) ∙ append_assoc (pixel_text p ++ front) back end)
+    (back ++ end, ap (λ t. (place_text p ++ t) ++ end) parts ∙ ap (λ t. t ++ end) (sym (append_assoc (place_text p) front back)) ∙ append_assoc (place_text p ++ front) back end)
 
 -- nothing is written, and nothing is laid out
 pub none_laid : (told : Option (List ℕ)) → IsLaid told told [] []
@@ -58,22 +58,22 @@ laid_on {next = next} more first second = record {
 }
 
 -- one more pixel of a row is laid out
-pub row_on : {a b c : Option (List ℕ)} {draft next : List ℕ} (ps : List Argb) (i : ℕ) (p : Argb) (new : List ℕ) → i < length ps → p ≡ get_or ps i p → new ≡ next ++ place_text i p → IsLaid a b draft (pixels_text (take i ps)) → IsLaid b c next draft → IsLaid a c new (pixels_text (take (i + 1) ps))
+pub row_on : {a b c : Option (List ℕ)} {draft next : List ℕ} (ps : List (Option Argb)) (i : ℕ) (p : Option Argb) (new : List ℕ) → i < length ps → p ≡ get_or ps i p → new ≡ next ++ column_text i p → IsLaid a b draft (places_text (take i ps)) → IsLaid b c next draft → IsLaid a c new (places_text (take (i + 1) ps))
 row_on {a = a} {c = c} {next = next} ps i p new below is more first second =
-    let laid = laid_on (place_text i p) first second in
-    let text : pixels_text (take i ps) ++ place_text i p ≡ pixels_text (take (i + 1) ps) = ap (λ q. pixels_text (take i ps) ++ place_text i q) is ∙ sym (pixels_more ps i p below) in
-    subst (λ draft. IsLaid a c draft (pixels_text (take (i + 1) ps))) (sym more) (subst (λ all. IsLaid a c (next ++ place_text i p) all) text laid)
+    let laid = laid_on (column_text i p) first second in
+    let text : places_text (take i ps) ++ column_text i p ≡ places_text (take (i + 1) ps) = ap (λ q. places_text (take i ps) ++ column_text i q) is ∙ sym (pixels_more ps i p below) in
+    subst (λ draft. IsLaid a c draft (places_text (take (i + 1) ps))) (sym more) (subst (λ all. IsLaid a c (next ++ column_text i p) all) text laid)
 
 -- a whole row is laid out, and of it and its end a front is written
-pub row_end : {a b c : Option (List ℕ)} {draft : List ℕ} (ps : List Argb) (i : ℕ) (end piece : List ℕ) → length ps ≤ i → piece ≡ draft ++ end → IsLaid a b draft (pixels_text (take i ps)) → GrowsPart b c piece → GrowsPart a c (pixels_text ps ++ end)
+pub row_end : {a b c : Option (List ℕ)} {draft : List ℕ} (ps : List (Option Argb)) (i : ℕ) (end piece : List ℕ) → length ps ≤ i → piece ≡ draft ++ end → IsLaid a b draft (places_text (take i ps)) → GrowsPart b c piece → GrowsPart a c (places_text ps ++ end)
 row_end {a = a} {b = b} {c = c} {draft = draft} ps i end piece all is laid part =
-    let whole : pixels_text ps ≡ laid.sent ++ draft = ap pixels_text (sym (take_all i ps all)) ∙ laid.split in
-    let joined : laid.sent ++ piece ≡ pixels_text ps ++ end = ap (λ t. laid.sent ++ t) is ∙ sym (append_assoc laid.sent draft end) ∙ ap (λ t. t ++ end) (sym whole) in
+    let whole : places_text ps ≡ laid.sent ++ draft = ap places_text (sym (take_all i ps all)) ∙ laid.split in
+    let joined : laid.sent ++ piece ≡ places_text ps ++ end = ap (λ t. laid.sent ++ t) is ∙ sym (append_assoc laid.sent draft end) ∙ ap (λ t. t ++ end) (sym whole) in
     subst (λ all. GrowsPart a c all) joined (whole_then_part laid.grows part)
 
 -- a row whose first pixels are laid out is cut off there
-pub row_cut : {a b c : Option (List ℕ)} {draft : List ℕ} (ps : List Argb) (i : ℕ) (end : List ℕ) → IsLaid a b draft (pixels_text (take i ps)) → GrowsPart b c draft → GrowsPart a c (pixels_text ps ++ end)
+pub row_cut : {a b c : Option (List ℕ)} {draft : List ℕ} (ps : List (Option Argb)) (i : ℕ) (end : List ℕ) → IsLaid a b draft (places_text (take i ps)) → GrowsPart b c draft → GrowsPart a c (places_text ps ++ end)
 row_cut {a = a} {c = c} {draft = draft} ps i end laid part =
-    let front : GrowsPart a c (pixels_text (take i ps)) = subst (λ all. GrowsPart a c all) (sym laid.split) (whole_then_part laid.grows part) in
+    let front : GrowsPart a c (places_text (take i ps)) = subst (λ all. GrowsPart a c all) (sym laid.split) (whole_then_part laid.grows part) in
     let behind = pixels_front ps i end in
     subst (λ all. GrowsPart a c all) (sym behind.1) (part_of_front behind.0 front)

@@ -1,6 +1,6 @@
 -- What some lines say.
 use Rattle.std.specs.Prelude.{◌≡◌, pos, negsuc, true, false, refl, [], ◌∷◌, ◌++◌, codes, replicate}
-use Rattle.ev_model.specs.declared.command.Command.TheVariants.{Edit, Damage, Preload, Step, Sum}
+use Rattle.ev_model.specs.declared.command.Command.TheVariants.{Edit, Damage, HideArea, ClearAreas, Preload, Step, Sum}
 use Rattle.ev_model.specs.declared.command.Edit.TheVariants as edit
 use Rattle.ev_model.specs.declared.object.Op.TheVariants as op
 use Rattle.ev_model.specs.declared.content.Kind.TheVariants as kinds
@@ -71,6 +71,14 @@ said_nothing = refl
 damaged : line_of (codes "damage 1 2 3 4") ≡ says.Command (Damage (pos 1) (pos 2) (pos 3) (pos 4))
 unfolding line_of command_line verb_of object_verb order_verb content_verb frame_verb of_alone of_name of_names of_two of_four no_words one_number pair quad two_numbers four_numbers one_name two_names name_and_number name_and_two name_and_four name_and_op name_and_switch name_and_text name_arg number_arg op_arg switch_arg number negative natural
 damaged = refl
+
+hidden : line_of (codes "hide-area 0 0 4 8") ≡ says.Command (HideArea (pos 0) (pos 0) (pos 4) (pos 8))
+unfolding line_of command_line verb_of object_verb order_verb content_verb frame_verb of_alone of_name of_names of_two of_four no_words one_number pair quad two_numbers four_numbers one_name two_names name_and_number name_and_two name_and_four name_and_op name_and_switch name_and_text name_arg number_arg op_arg switch_arg number negative natural
+hidden = refl
+
+cleared : line_of (codes "clear-areas") ≡ says.Command ClearAreas
+unfolding line_of command_line verb_of object_verb order_verb content_verb frame_verb of_alone of_name of_names of_two of_four no_words one_number pair quad two_numbers four_numbers one_name two_names name_and_number name_and_two name_and_four name_and_op name_and_switch name_and_text name_arg number_arg op_arg switch_arg number negative natural
+cleared = refl
 
 preloaded : line_of (codes "preload o") ≡ says.Command (Preload (codes "o"))
 unfolding line_of command_line verb_of object_verb order_verb content_verb frame_verb of_alone of_name of_names of_two of_four no_words one_number pair quad two_numbers four_numbers one_name two_names name_and_number name_and_two name_and_four name_and_op name_and_switch name_and_text name_arg number_arg op_arg switch_arg number negative natural

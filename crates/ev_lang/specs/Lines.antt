@@ -2,7 +2,7 @@
 use Rattle.std.specs.Prelude.{ℕ, Bool, ◌&&◌, not, nat_le, nat_lt, length, Option, Some, None, Result, Ok, Err, List, [], ◌∷◌, ◌==◌, if◌then◌else◌}
 use Rattle.std.specs.List.{list_all}
 use Rattle.ev_model.specs.declared.command.Command.{Command}
-use Rattle.ev_model.specs.declared.command.Command.TheVariants.{Edit, Damage, Step}
+use Rattle.ev_model.specs.declared.command.Command.TheVariants.{Edit, Damage, HideArea, Step}
 use Rattle.ev_model.specs.declared.command.Edit.TheVariants as edit
 use Rattle.ev_model.specs.declared.refusal.BadLine.{BadLine}
 use Rattle.ev_model.specs.declared.refusal.BadLine.TheVariants as bad
@@ -48,6 +48,7 @@ command_line verb.Layer rest = said (name_and_number (words rest)) (λ p. Edit (
 command_line verb.Say rest = said (name_and_text rest) (λ p. Edit (edit.Say p.0 (text p.1)))
 command_line verb.Size rest = said (two_numbers (words rest)) (λ p. Edit (edit.Size p.0 p.1))
 command_line verb.Damage rest = said (four_numbers (words rest)) (λ p. Damage p.0 p.1 p.2 p.3)
+command_line verb.HideArea rest = said (four_numbers (words rest)) (λ p. HideArea p.0 p.1 p.2 p.3)
 command_line verb.Step rest = said (one_number (words rest)) (λ k. Step k)
 
 -- a line whose first word is known

@@ -2,7 +2,7 @@
 use Rattle.std.specs.Prelude.{ℕ, ℤ, true, false, Option, Some, None, List, codes, if◌then◌else◌}
 use Rattle.std.specs.Str.{bytes_eq}
 use Rattle.ev_model.specs.declared.command.Command.{Command}
-use Rattle.ev_model.specs.declared.command.Command.TheVariants.{Edit, Preload, Load, Cancel, Serve, Start, Poll, Wait, Render, Dump, Sum, Stats}
+use Rattle.ev_model.specs.declared.command.Command.TheVariants.{Edit, Preload, Load, Cancel, Serve, Start, Poll, Wait, Render, Dump, Sum, Stats, ClearAreas}
 use Rattle.ev_model.specs.declared.command.Edit.TheVariants as edit
 use Rattle.ev_model.specs.declared.content.Kind.TheVariants as kinds
 use Rattle.ev_lang.specs.declared.verb.Verb.{Verb}
@@ -77,6 +77,8 @@ frame_verb word =
     else if bytes_eq word (codes "stats") then Some (verb.Alone alone.Stats)
     else if bytes_eq word (codes "size") then Some verb.Size
     else if bytes_eq word (codes "damage") then Some verb.Damage
+    else if bytes_eq word (codes "hide-area") then Some verb.HideArea
+    else if bytes_eq word (codes "clear-areas") then Some (verb.Alone alone.ClearAreas)
     else None
 
 -- this one, or else the other
@@ -98,6 +100,7 @@ of_alone alone.Render = Render
 of_alone alone.Dump = Dump
 of_alone alone.Sum = Sum
 of_alone alone.Stats = Stats
+of_alone alone.ClearAreas = ClearAreas
 
 -- commands of one object
 unfoldable pub of_name : OneName → List ℕ → Command

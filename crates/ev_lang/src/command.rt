@@ -23,6 +23,7 @@ impl Alone {
             Alone::Dump => Command::Dump,
             Alone::Sum => Command::Sum,
             Alone::Stats => Command::Stats,
+            Alone::ClearAreas => Command::ClearAreas,
         }
     }
 }

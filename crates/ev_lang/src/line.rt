@@ -101,6 +101,7 @@ fn command_line(verb: Verb, rest: &[u8]) -> Line<'_>
         Verb::Say => say_line(rest),
         Verb::Size => size_line(rest),
         Verb::Damage => damage_line(rest),
+        Verb::HideArea => hide_area_line(rest),
         Verb::Step => step_line(rest),
     }
 }
@@ -212,6 +213,16 @@ fn damage_line(rest: &[u8]) -> Line<'_>
 {
     match four_numbers(rest) {
         Ok((x, y, w, h)) => Line::Command(Command::Damage { x, y, w, h }),
+        Err(fault) => Line::Bad(fault),
+    }
+}
+
+fn hide_area_line(rest: &[u8]) -> Line<'_>
+    ensures says { by_value result ≡ said (four_numbers (words rest.now)) (λ p. order.HideArea p.0 p.1 p.2 p.3) }
+    ensures within { IsLine result }
+{
+    match four_numbers(rest) {
+        Ok((x, y, w, h)) => Line::Command(Command::HideArea { x, y, w, h }),
         Err(fault) => Line::Bad(fault),
     }
 }

@@ -97,12 +97,12 @@ fn replies_are_written_a_line_a_call(rt: HostRuntime) -> Result<(), Fail> {
         write_reply(
             &mut sink,
             &Reply::DumpRow {
-                pixels: &[red, red]
+                pixels: &[Some(red), None]
             }
         )
         .is_ok()
     );
-    let log = b"pending 1 0 20\nserved i\nrefused none 18\nshown 1 2 1 2\nffff0000 ffff0000\n";
+    let log = b"pending 1 0 20\nserved i\nrefused none 18\nshown 1 2 1 2\nffff0000 --------\n";
     assert!(rt; sink.written() == log.as_slice());
     Ok(())
 }

@@ -18,6 +18,7 @@ pub enum Verb {
     Say,
     Size,
     Damage,
+    HideArea,
     Step,
 }
 
@@ -32,6 +33,7 @@ pub enum Alone {
     Dump,
     Sum,
     Stats,
+    ClearAreas,
 }
 
 /// A name follows.
@@ -207,6 +209,10 @@ fn frame_verb(word: &[u8]) -> Option<Verb>
         Some(Verb::Size)
     } else if word == b"damage".as_slice() {
         Some(Verb::Damage)
+    } else if word == b"hide-area".as_slice() {
+        Some(Verb::HideArea)
+    } else if word == b"clear-areas".as_slice() {
+        Some(Verb::Alone(Alone::ClearAreas))
     } else {
         None
     }

@@ -1,5 +1,5 @@
 -- Replies, as contracts see them.
-use Rattle.std.specs.Prelude.{ℕ, List}
+use Rattle.std.specs.Prelude.{ℕ, List, Option}
 use Rattle.ev_argb.specs.Argb.{Argb}
 use Rattle.ev_geom.specs.Area.{Area}
 use Rattle.ev_model.specs.declared.reply.Reply.{Reply}
@@ -20,7 +20,7 @@ pub data Answer : Type 0 where
   PreloadFailed : List ℕ → LoadFault → Answer
   Cancelled : List ℕ → Answer
   Idle : Answer
-  DumpRow : List Argb → Answer
+  DumpRow : List (Option Argb) → Answer
   Sum : ℕ → ℕ → ℕ → ℕ → ℕ → Answer
   Stats : ℕ → ℕ → Answer
   Bad : BadLine → ℕ → Answer

@@ -10,8 +10,8 @@ use Rattle.ev_model.specs.declared.refusal.Refusal.TheVariants as refusal
 use Rattle.ev_model.specs.declared.refusal.ImageFault.TheVariants as image
 use Rattle.ev_model.specs.declared.refusal.LoadFault.TheVariants as load
 
-shown_and_dumped : text (Shown 1 2 1 (record { x = pos 0; y = pos 0; w = pos 2; h = pos 1 } ∷ []) ∷ DumpRow (map unpacked (0xffff0000 ∷ 0xffff0000 ∷ [])) ∷ []) ≡
-    codes "shown 1 2 1 1" ++ 10 ∷ [] ++ codes "update 0 0 2 1" ++ 10 ∷ [] ++ codes "ffff0000 ffff0000" ++ 10 ∷ []
+shown_and_dumped : text (Shown 1 2 1 (record { x = pos 0; y = pos 0; w = pos 2; h = pos 1 } ∷ []) ∷ DumpRow (Some (unpacked 0xffff0000) ∷ None ∷ []) ∷ []) ≡
+    codes "shown 1 2 1 1" ++ 10 ∷ [] ++ codes "update 0 0 2 1" ++ 10 ∷ [] ++ codes "ffff0000 --------" ++ 10 ∷ []
 unfolding digits
 shown_and_dumped = refl
 

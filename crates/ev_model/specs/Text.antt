@@ -1,5 +1,5 @@
 -- The bytes of replies.
-use Rattle.std.specs.Prelude.{ℤ, ℕ, ◌+◌, ◌/◌, ◌%◌, List, [], ◌∷◌, ◌++◌, decimal, codes, if◌then◌else◌, nat_lt, length, flat_map}
+use Rattle.std.specs.Prelude.{ℤ, ℕ, ◌+◌, ◌/◌, ◌%◌, List, [], ◌∷◌, ◌++◌, decimal, codes, if◌then◌else◌, nat_lt, length, flat_map, Option, Some, None}
 use Rattle.std.specs.Fmt.{signed_decimal}
 use Rattle.ev_argb.specs.Argb.{Argb}
 use Rattle.ev_geom.specs.Area.{Area}
@@ -89,10 +89,15 @@ hex n = digit (n / 16) ∷ digit (n % 16) ∷ []
 abbrev pub pixel_text : Argb → List ℕ
 pixel_text p = hex p.a ++ hex p.r ++ hex p.g ++ hex p.b
 
--- pixels with single spaces between them
-abbrev pub pixels_text : List Argb → List ℕ
-pixels_text [] = []
-pixels_text (p ∷ ps) = pixel_text p ++ flat_map (λ q. 32 ∷ pixel_text q) ps
+-- the pixel of a place, or what stands where it was hidden
+abbrev pub place_text : Option Argb → List ℕ
+place_text (Some p) = pixel_text p
+place_text None = codes "--------"
+
+-- places with single spaces between them
+abbrev pub places_text : List (Option Argb) → List ℕ
+places_text [] = []
+places_text (p ∷ ps) = place_text p ++ flat_map (λ q. 32 ∷ place_text q) ps
 
 -- the bytes of one reply
 abbrev pub reply_text : Answer → List ℕ
@@ -106,7 +111,7 @@ reply_text (Preloaded name) = codes "preloaded " ++ name ++ 10 ∷ []
 reply_text (PreloadFailed name fault) = codes "preload-failed " ++ name ++ 32 ∷ fault_text fault ++ 10 ∷ []
 reply_text (Cancelled name) = codes "cancelled " ++ name ++ 10 ∷ []
 reply_text Idle = codes "idle" ++ 10 ∷ []
-reply_text (DumpRow pixels) = pixels_text pixels ++ 10 ∷ []
+reply_text (DumpRow places) = places_text places ++ 10 ∷ []
 reply_text (Sum a r g b p) = codes "sum" ++ spaced a ++ spaced r ++ spaced g ++ spaced b ++ spaced p ++ 10 ∷ []
 reply_text (Stats painted made) = codes "stats" ++ spaced painted ++ spaced made ++ 10 ∷ []
 reply_text (Bad fault line) = codes "bad " ++ bad_word fault ++ spaced line ++ 10 ∷ []

@@ -131,6 +131,10 @@ pub enum Command<'a> {
     Edit(Edit<'a>),
     /// This rectangle of the canvas is to be drawn anew.
     Damage { x: i64, y: i64, w: i64, h: i64 },
+    /// This rectangle of the canvas needn't be drawn.
+    HideArea { x: i64, y: i64, w: i64, h: i64 },
+    /// All of the canvas is to be drawn again.
+    ClearAreas,
     /// Begins a load of the object's file.
     Preload(Name),
     /// A load of the object's file, from its beginning to its end.

@@ -51,9 +51,9 @@ pub enum Reply<'a> {
     },
     /// There was nothing to do.
     Idle,
-    /// A row of a picture, from left to right.
+    /// A row of a picture, from left to right; nothing where a pixel was hidden.
     DumpRow {
-        pixels: &'a [Pixel],
+        pixels: &'a [Option<Pixel>],
     },
     /// The totals of the four channels of a picture, and one that minds the places.
     Sum {
