@@ -27,7 +27,7 @@ pixels_more (p ∷ ps) (suc i) d below =
     ∙ ap (flat_map spaced) (take_more ps i d within)
     ∙ flat_map-append spaced (take i ps) (last ∷ [])
     ∙ ap (λ t. front ++ t) (append-nil (spaced last) ∙ sym (later (suc i) last (omega arith))) in
-    rw add-one (ap (λ t. place_text p ++ t) step)
+    rw add-one (ap (λ t. place_text p ++ t) step ∙ sym (append_assoc (place_text p) front (column_text (suc i) last)))
 
 -- the first pixels of a row begin its text
 pub pixels_front : (ps : List (Option Argb)) (i : ℕ) (end : List ℕ) → (rest : List ℕ) × (places_text ps ++ end ≡ places_text (take i ps) ++ rest)
