@@ -1,3 +1,4 @@
 pub mod Rows
 pub mod Laying
 pub mod Fitting
+pub mod Spelling

@@ -34,7 +34,8 @@ range_more a (suc n) =
     let f : a + 1 + n ≡ a + suc n = omega arith in
     rw e (ap (λ rest. a ∷ rest) (range_more (a + 1) n ∙ ap (λ k. range_with_len (a + 1) n ++ k ∷ []) f))
 
-rows_more : (grid : Grid) (y : ℕ) → flat_map (row_of grid) (range_with_len 0 (y + 1)) ≡ flat_map (row_of grid) (range_with_len 0 y) ++ row_of grid y
+-- the rows of a picture up to one more
+pub rows_more : (grid : Grid) (y : ℕ) → flat_map (row_of grid) (range_with_len 0 (y + 1)) ≡ flat_map (row_of grid) (range_with_len 0 y) ++ row_of grid y
 rows_more grid y =
     let e : 0 + y ≡ y = omega arith in
     ap (flat_map (row_of grid)) (range_more 0 y)

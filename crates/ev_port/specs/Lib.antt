@@ -5,3 +5,4 @@ pub mod Frame
 pub mod Calls
 pub mod Memory
 pub mod Flat
+pub mod Folder

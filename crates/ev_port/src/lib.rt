@@ -4,6 +4,9 @@
 mod calls;
 mod edge;
 mod file;
+mod folder_screen;
+mod folder_store;
+mod frame_bytes;
 mod mem_screen;
 mod mem_sink;
 mod mem_source;
@@ -13,6 +16,8 @@ mod room;
 
 pub use edge::{InSource, NoScreen, OutSink};
 pub use file::{Bytes, LARGEST_FILE, StoredFile};
+pub use folder_screen::FolderScreen;
+pub use folder_store::FolderStore;
 pub use mem_screen::{MemScreen, ScreenRoom, ShownFrame};
 pub use mem_sink::MemSink;
 pub use mem_source::MemSource;
