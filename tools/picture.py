@@ -1,11 +1,13 @@
 #!/usr/bin/env python3
-"""Makes a PNG of the last picture that a log dumps.
+"""Makes a PNG of a picture.
 
     tools/picture.py [--scale N] OUT.png < LOG
+    tools/picture.py [--scale N] --image FILE.evi OUT.png
 
-A dumped row is a line of pixels of eight hexadecimal digits (alpha, red, green, blue, premultiplied).
-The picture is shown over white.
+Without a file it is the last picture that the log dumps: rows of pixels of eight hexadecimal digits (alpha,
+red, green, blue, premultiplied). With a file it is that image, of the format EVI1. It is shown over white.
 """
+import argparse
 import re
 import struct
 import sys
@@ -29,36 +31,71 @@ def last_dump(lines):
     return found
 
 
+def rows_of_image(data):
+    """The rows of an image in EVI1. None where the bytes are no such image."""
+    if data[:4] != b"EVI1" or len(data) < 12:
+        return None
+    width, height = struct.unpack("<II", data[4:12])
+    if len(data) != 12 + 4 * width * height:
+        return None
+    pixels = [data[at : at + 4] for at in range(12, len(data), 4)]
+    return [pixels[width * y : width * (y + 1)] for y in range(height)]
+
+
 def over_white(pixel):
     alpha, red, green, blue = pixel
     return bytes(min(255, channel + 255 - alpha) for channel in (red, green, blue))
 
 
-def png(rows, scale):
-    width, height = len(rows[0]) * scale, len(rows) * scale
-    data = b""
+def packed(rows, step, filtered):
+    """The compressed rows of a PNG, each as it is or as its difference to the row above (`step` bytes a pixel)."""
+    data, above = b"", bytes(len(rows[0]) * step)
     for row in rows:
-        data += (b"\0" + b"".join(over_white(pixel) * scale for pixel in row)) * scale
+        line = b"".join(row)
+        if filtered:
+            data += b"\2" + bytes((a - b) % 256 for a, b in zip(line, above))
+        else:
+            data += b"\0" + line
+        above = line
+    return zlib.compress(data, 9)
 
-    def chunk(kind, body):
-        return struct.pack(">I", len(body)) + kind + body + struct.pack(">I", zlib.crc32(kind + body))
 
-    header = struct.pack(">IIBBBBB", width, height, 8, 2, 0, 0, 0)
-    return b"\x89PNG\r\n\x1a\n" + chunk(b"IHDR", header) + chunk(b"IDAT", zlib.compress(data, 9)) + chunk(b"IEND", b"")
+def png(rows, scale):
+    """The smallest of some ways to write the rows: with a palette where 256 colours are enough, with differences or without."""
+    rows = [[over_white(pixel) for pixel in row for _ in range(scale)] for row in rows for _ in range(scale)]
+    colours = sorted({pixel for row in rows for pixel in row})
+    kind, palette = 2, b""
+    if len(colours) <= 256:
+        kind, palette = 3, chunk(b"PLTE", b"".join(colours))
+        places = {pixel: bytes([place]) for place, pixel in enumerate(colours)}
+        rows = [[places[pixel] for pixel in row] for row in rows]
+    step = len(rows[0][0])
+    data = min((packed(rows, step, filtered) for filtered in (False, True)), key=len)
+    header = chunk(b"IHDR", struct.pack(">IIBBBBB", len(rows[0]), len(rows), 8, kind, 0, 0, 0))
+    return b"\x89PNG\r\n\x1a\n" + header + palette + chunk(b"IDAT", data) + chunk(b"IEND", b"")
+
+
+def chunk(kind, body):
+    return struct.pack(">I", len(body)) + kind + body + struct.pack(">I", zlib.crc32(kind + body))
 
 
 def main():
-    words = sys.argv[1:]
-    scale = 1
-    if words[:1] == ["--scale"]:
-        scale, words = int(words[1]), words[2:]
-    if len(words) != 1:
-        sys.exit(__doc__)
-    rows = last_dump(line.rstrip("\n") for line in sys.stdin)
-    if not rows:
-        sys.exit("picture.py: the log has no dump")
-    with open(words[0], "wb") as out:
-        out.write(png(rows, scale))
+    words = argparse.ArgumentParser(description=__doc__, formatter_class=argparse.RawDescriptionHelpFormatter)
+    words.add_argument("--scale", type=int, default=1)
+    words.add_argument("--image", metavar="FILE.evi")
+    words.add_argument("out", metavar="OUT.png")
+    words = words.parse_args()
+    if words.image:
+        with open(words.image, "rb") as file:
+            rows = rows_of_image(file.read())
+        if not rows:
+            sys.exit(f"picture.py: {words.image} is no image of the format EVI1")
+    else:
+        rows = last_dump(line.rstrip("\n") for line in sys.stdin)
+        if not rows:
+            sys.exit("picture.py: the log has no dump")
+    with open(words.out, "wb") as out:
+        out.write(png(rows, words.scale))
 
 
 if __name__ == "__main__":

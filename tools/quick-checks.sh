@@ -26,6 +26,11 @@ if command -v python3 >/dev/null; then
   made=$(mktemp)
   printf 'ffff0000 00000000\n' | python3 tools/picture.py "$made" && [ "$(head -c 4 "$made" | tail -c 3)" = PNG ] || complain "tools/picture.py makes no PNG"
   rm -f "$made"
+  made=$(mktemp -d)
+  python3 examples/panel/draw.py "$made" && diff -r "$made" examples/panel/store || complain "examples/panel/store isn't what its draw.py makes"
+  printf 'height 1\nglyph 32 space\n.x\n' > "$made/bad.txt"
+  python3 tools/font.py "$made/bad.txt" "$made/bad.evf" 2>&1 | grep -q 'line 3:' || complain "tools/font.py doesn't name the line that is malformed"
+  rm -rf "$made"
 fi
 [ $failed = 0 ] && echo "quick-checks: ok"
 exit $failed
