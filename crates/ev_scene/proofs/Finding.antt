@@ -1,10 +1,11 @@
 -- What a look-up of a name answers.
-use Rattle.std.proofs.Common.{◌≡◌, ℕ, ◌+◌, ◌-◌, ◌<◌, ◌≤◌, true, false, cond, if◌then◌else◌, List, [], ◌∷◌, ◌++◌, length, Option, Some, None, is_some, IfSome, option_copied, Bor, refl, sym, ap, ◌∙◌, subst}
+use Rattle.std.proofs.Common.{◌≡◌, ℕ, ◌+◌, ◌-◌, ◌<◌, ◌≤◌, true, false, cond, if◌then◌else◌, List, [], ◌∷◌, ◌++◌, length, Option, Some, None, is_some, IfSome, option_copied, Bor, refl, sym, ap, ◌∙◌, subst, ◌==◌, arith}
 use Rattle.std.specs.Option.{option_map}
 use Rattle.ev_state.specs.Held.{Held}
 use Rattle.ev_model.specs.declared.object.Object.{Object}
 use Rattle.std.specs.Map.{lookup}
 use Rattle.std.proofs.lemmas.List.{map-set}
+use Rattle.std.proofs.lemmas.Bool.Decides.{nat_tests}
 use Rattle.std.proofs.lemmas.Option.{none-some, same_Some}
 use Rattle.ev_scene.specs.Slots.{of_id, put, value_of}
 use Rattle.ev_scene.specs.Change.{apply}
@@ -13,7 +14,7 @@ use Rattle.ev_scene.specs.declared.change.Change.TheVariants as change
 use Rattle.ev_scene.specs.Board.{named, values_of}
 use Rattle.ev_scene.specs.Roll.{same_label, id_in, name_at, IsRoll, IsStateOf}
 use Rattle.ev_scene.specs.declared.label.Label.{Label}
-use Rattle.ev_scene.proofs.Places.{of_id_map, id_low, id_high}
+use Rattle.ev_scene.proofs.Places.{of_id_map, of_id_put, id_low, id_high}
 use Rattle.ev_scene.proofs.Naming.{NamedBy, named_by, unnamed, free_name, own_value, added, removed, changed}
 
 -- a change leaves the id and the name
@@ -24,6 +25,7 @@ apply_id (change.Appear on) o = refl
 apply_id (change.Paint color) o = refl
 apply_id (change.Treat op) o = refl
 apply_id (change.Draw d) o = refl
+apply_id (change.Write w) o = refl
 apply_id (change.Lift layer) o = refl
 apply_id (change.Clip clipper) o = refl
 apply_id (change.Enter parent) o = refl
@@ -35,6 +37,7 @@ apply_name (change.Appear on) o = refl
 apply_name (change.Paint color) o = refl
 apply_name (change.Treat op) o = refl
 apply_name (change.Draw d) o = refl
+apply_name (change.Write w) o = refl
 apply_name (change.Lift layer) o = refl
 apply_name (change.Clip clipper) o = refl
 apply_name (change.Enter parent) o = refl
@@ -101,6 +104,13 @@ module _ (states : List (Option (Held Object))) (ids : List (Label × ℕ)) (see
       let at : of_id (values_of states) id ≡ Some s.value = of_id_map value_of states id ∙ ap (option_map value_of) there in
       subst P is (map-set (λ slot. option_map value_of slot) states (id - 1) (Some (record { value = o; serial = serial }))
       ∙ ap (put (values_of states) id) (ap Some e ∙ sym (ap (option_map (apply c)) at)))
+
+  -- no other object has another state
+  pub changed_alone : (id : ℕ) (s t : Held Object) → of_id states id ≡ Some s → put states id (Some t) ≡ put seen id (of_id (put states id (Some t)) id)
+  changed_alone id s t there =
+      let itself : (id == id) ≡ true = grind (arith, nat_tests) in
+      let at : of_id (put states id (Some t)) id ≡ Some t = of_id_put states id id s (Some t) there ∙ ap (λ b. if b then Some t else of_id states id) itself in
+      ap (put states id) (sym at) ∙ ap (λ seen. put seen id (of_id (put states id (Some t)) id)) is
 
   -- another state of the object of its id
   pub replaced_at : (t : Held Object) → IsStateOf seen t → IsRoll (put states t.value.id (Some t)) ids

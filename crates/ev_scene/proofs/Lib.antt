@@ -19,3 +19,5 @@ pub mod Releasing
 pub mod Deleting
 pub mod Verdicts
 pub mod Rehoming
+pub mod Loading
+pub mod Bounding

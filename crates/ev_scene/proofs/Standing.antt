@@ -4,12 +4,14 @@ use Rattle.std.specs.FinMap.{get, insert, empty, get-empty, get-insert}
 use Rattle.std.specs.Option.{option_map, option_and_then, option_eq}
 use Rattle.std.specs.Prelude.{nat_eq}
 use Rattle.std.proofs.Math.Bool.{true≢false}
+use Rattle.std.proofs.lemmas.List.Elements.{All-nil}
 use Rattle.std.proofs.lemmas.Option.{none-some, same_Some}
 use Rattle.std.proofs.lemmas.Int.{ints}
 use Rattle.std.proofs.lemmas.Bool.Decides.{nat_tests, eqb_tells}
 use Rattle.std.proofs.lemmas.List.{length-map, map-append, length-append, length-set}
 use Rattle.ev_state.specs.Held.{Held}
 use Rattle.ev_model.specs.Content.{kind_of}
+use Rattle.ev_model.specs.Glyphs.{IsCharacter}
 use Rattle.ev_model.specs.Limits.{IsContent, IsObject}
 use Rattle.ev_model.specs.declared.content.Content.{Content}
 use Rattle.ev_model.specs.declared.content.Content.TheVariants as content
@@ -22,11 +24,13 @@ use Rattle.ev_model.specs.declared.content.Kind.TheVariants.{Rect, Image, Text, 
 use Rattle.ev_links.specs.Ties.{Tie, Ties, alone, released, parent_at, clipper_at, IsSound}
 use Rattle.ev_scene.specs.Slots.{of_id, put, value_of}
 use Rattle.ev_scene.specs.Board.{values_of}
-use Rattle.ev_scene.specs.Change.{apply, is_layer, is_made, fresh, drawn, IsDrawing, IsLook, IsFit}
+use Rattle.ev_scene.specs.Change.{apply, is_layer, fresh, drawn, IsDrawing, written, IsWriting, IsLook, IsFit}
 use Rattle.ev_scene.specs.Ties.{tie_of, layer_at}
 use Rattle.ev_scene.specs.Whole.{IsWhole}
 use Rattle.ev_scene.specs.declared.drawing.Drawing.{Drawing}
 use Rattle.ev_scene.specs.declared.drawing.Drawing.TheVariants as drawing
+use Rattle.ev_scene.specs.declared.writing.Writing.{Writing}
+use Rattle.ev_scene.specs.declared.writing.Writing.TheVariants as writing
 use Rattle.ev_scene.specs.declared.change.Change.{Change}
 use Rattle.ev_scene.specs.declared.change.Change.TheVariants as change
 use Rattle.ev_scene.proofs.Apart.{apart_absent}
@@ -46,6 +50,7 @@ look_fits (change.Appear on) look = look
 look_fits (change.Paint color) look = look
 look_fits (change.Treat op) look = look
 look_fits (change.Draw d) look = look
+look_fits (change.Write w) look = look
 look_fits (change.Lift layer) look = absurd look
 look_fits (change.Clip clipper) look = absurd look
 look_fits (change.Enter parent) look = absurd look
@@ -71,7 +76,24 @@ drawn_limits d content.Smart fits old = old
 drawn_limits (drawing.Fill fill) (content.Image part) fits old = (fits, old.1)
 drawn_limits (drawing.Border border) (content.Image part) fits old = (old.0, fits)
 drawn_limits (drawing.Center on) (content.Image part) fits old = old
+drawn_limits (drawing.File key) (content.Image part) fits old = old
+drawn_limits (drawing.Load loaded) (content.Image part) fits old = old
 drawn_limits d (content.Text part) fits old = old
+
+-- another text or font leaves the kind, and keeps the limits
+written_kind : (w : Writing) (content : Content) → kind_of (written w content) ≡ kind_of content
+written_kind w content.Rect = refl
+written_kind w content.Smart = refl
+written_kind w (content.Image part) = refl
+written_kind w (content.Text part) = refl
+
+written_limits : (w : Writing) (content : Content) → IsWriting w → IsContent content → IsContent (written w content)
+written_limits w content.Rect fits old = old
+written_limits w content.Smart fits old = old
+written_limits w (content.Image part) fits old = old
+written_limits (writing.Font key) (content.Text part) fits old = old
+written_limits (writing.Load loaded) (content.Text part) fits old = old
+written_limits (writing.Say text) (content.Text part) fits old = fits
 
 pub look_stands : (c : Change) (o : Object) → IsLook c → IsSameStand o (apply c o)
 look_stands (change.Place x y) o look = record { id = refl; layer = refl; parent = refl; tie = refl; limits = λ l. record { layer_low = l.layer_low; layer_high = l.layer_high; content = l.content } }
@@ -85,6 +107,13 @@ look_stands (change.Draw d) o look = record {
   parent = refl;
   tie = ap (λ kind. record { kind = kind; clipper = o.clipper; parent = o.parent }) (drawn_kind d o.content);
   limits = λ l. record { layer_low = l.layer_low; layer_high = l.layer_high; content = drawn_limits d o.content look l.content };
+}
+look_stands (change.Write w) o look = record {
+  id = refl;
+  layer = refl;
+  parent = refl;
+  tie = ap (λ kind. record { kind = kind; clipper = o.clipper; parent = o.parent }) (written_kind w o.content);
+  limits = λ l. record { layer_low = l.layer_low; layer_high = l.layer_high; content = written_limits w o.content look l.content };
 }
 look_stands (change.Lift layer) o look = absurd look
 look_stands (change.Clip clipper) o look = absurd look
@@ -477,31 +506,31 @@ known_tie ties ties' id kind fault e f =
 
 -- the same of states
 pub made_to : (w h : ℕ) (states : List (Option (Held Object))) (groups : List (List (ℕ × ℤ))) (ties : Ties) → IsWhole w h (values_of states) groups ties
-    → (states' : List (Option (Held Object))) (s : Held Object) (name : List ℕ) (kind : Kind) (id : ℕ) (groups' : List (List (ℕ × ℤ))) (ties' : Ties) → is_made kind ≡ true → id ≡ length states + 1 → s.value ≡ fresh id name kind
+    → (states' : List (Option (Held Object))) (s : Held Object) (name : List ℕ) (kind : Kind) (id : ℕ) (groups' : List (List (ℕ × ℤ))) (ties' : Ties) → id ≡ length states + 1 → s.value ≡ fresh id name kind
     → states' ≡ states ++ Some s ∷ [] → groups' ≡ with_group groups None (put_top (group groups None) (length groups) (pos 0)) ++ [] ∷ [] → ties' ≡ insert ties id (alone kind)
     → IsWhole w h (values_of states') groups' ties'
-made_to w h states groups ties whole states' s name kind id groups' ties' plain next new e f g =
+made_to w h states groups ties whole states' s name kind id groups' ties' next new e f g =
     let objects : List (Option Object) = values_of states in
     let size : length objects ≡ length states = length-map states (λ slot. option_map value_of slot) in
     let next' : id ≡ length objects + 1 = next ∙ ap (λ n. n + 1) (sym size) in
     let place : length groups ≡ id = whole.grouped ∙ sym next' in
     made w h objects groups ties whole id s.value (values_of states') groups' ties' next'
-    (ap (λ o. o.id) new) (ap (λ o. o.parent) new) (ap (λ o. o.layer) new) (subst (λ o. IsObject o) (sym new) (new_object id name kind plain))
+    (ap (λ o. o.id) new) (ap (λ o. o.parent) new) (ap (λ o. o.layer) new) (subst (λ o. IsObject o) (sym new) (new_object id name kind))
     (ap values_of e ∙ map-append (λ slot. option_map value_of slot) states (Some s ∷ []))
     (f ∙ ap (λ n. with_group groups None (put_top (group groups None) n (pos 0)) ++ [] ∷ []) place)
-    (g ∙ ap (insert ties id) (sym (ap tie_of new ∙ fresh_tie id name kind plain)))
+    (g ∙ ap (insert ties id) (sym (ap tie_of new ∙ fresh_tie id name kind)))
   where
-    new_object : (id : ℕ) (name : List ℕ) (kind : Kind) → is_made kind ≡ true → IsObject (fresh id name kind)
-    new_object id name Rect plain = record { layer_low = omega (arith, ints); layer_high = omega (arith, ints); content = tt }
-    new_object id name Smart plain = record { layer_low = omega (arith, ints); layer_high = omega (arith, ints); content = tt }
-    new_object id name Image plain = record { layer_low = omega (arith, ints); layer_high = omega (arith, ints); content = (tt, record { l = omega arith; r = omega arith; t = omega arith; b = omega arith }) }
-    new_object id name Text plain = absurd (true≢false (sym plain))
+    new_object : (id : ℕ) (name : List ℕ) (kind : Kind) → IsObject (fresh id name kind)
+    new_object id name Rect = record { layer_low = omega (arith, ints); layer_high = omega (arith, ints); content = tt }
+    new_object id name Smart = record { layer_low = omega (arith, ints); layer_high = omega (arith, ints); content = tt }
+    new_object id name Image = record { layer_low = omega (arith, ints); layer_high = omega (arith, ints); content = (tt, record { l = omega arith; r = omega arith; t = omega arith; b = omega arith }) }
+    new_object id name Text = record { layer_low = omega (arith, ints); layer_high = omega (arith, ints); content = record { len = omega arith; characters = All-nil IsCharacter } }
 
-    fresh_tie : (id : ℕ) (name : List ℕ) (kind : Kind) → is_made kind ≡ true → tie_of (fresh id name kind) ≡ alone kind
-    fresh_tie id name Rect plain = refl
-    fresh_tie id name Smart plain = refl
-    fresh_tie id name Image plain = refl
-    fresh_tie id name Text plain = absurd (true≢false (sym plain))
+    fresh_tie : (id : ℕ) (name : List ℕ) (kind : Kind) → tie_of (fresh id name kind) ≡ alone kind
+    fresh_tie id name Rect = refl
+    fresh_tie id name Smart = refl
+    fresh_tie id name Image = refl
+    fresh_tie id name Text = refl
 
 pub next_of : (states : List (Option (Held Object))) (id : ℕ) → id ≡ length states + 1 → id ≡ length (values_of states) + 1
 next_of states id next = next ∙ ap (λ n. n + 1) (sym (length-map states (λ slot. option_map value_of slot)))

@@ -1,17 +1,27 @@
 -- Scenes as they are captured.
-use Rattle.std.specs.Prelude.{◌≡◌, ◌≤◌, List, map}
+use Rattle.std.specs.Prelude.{◌≡◌, ℕ, ◌≤◌, pos, ◌+ℤ◌, ◌≤ℤ◌, All, List, map}
+use Rattle.ev_geom.specs.Area.{Area}
 use Rattle.ev_model.specs.Limits.{AreObjects}
 use Rattle.ev_model.specs.Look.{look_of, looks}
 use Rattle.ev_model.specs.Stage.{stage}
 use Rattle.ev_model.specs.declared.scene.Record.{Record}
 use Rattle.ev_model.specs.declared.scene.Scene.{Scene}
 
+-- an area lies on the canvas of w by h
+pub record IsOnCanvas (w h : ℕ) (area : Area) : Type 0 where
+  pub left : pos 0 ≤ℤ area.x
+  pub top : pos 0 ≤ℤ area.y
+  pub width : pos 0 ≤ℤ area.w
+  pub height : pos 0 ≤ℤ area.h
+  pub right : (area.x +ℤ area.w) ≤ℤ pos w
+  pub bottom : (area.y +ℤ area.h) ≤ℤ pos h
+
 -- a scene with its records
 pub record Shot : Type 0 where
   pub scene : Scene
   pub records : List Record
 
--- the scene keeps its limits, and the records are its looks in their order
+-- the scene keeps its limits, the records are its looks in their order, and their areas lie on its canvas
 pub record IsShot (shot : Shot) : Type 0 where
   pub w_low : 1 ≤ shot.scene.w
   pub w_high : shot.scene.w ≤ 4096
@@ -19,3 +29,4 @@ pub record IsShot (shot : Shot) : Type 0 where
   pub h_high : shot.scene.h ≤ 4096
   pub objects : AreObjects shot.scene.objects
   pub looks : map look_of shot.records ≡ looks (stage shot.scene)
+  pub areas : All (λ r. IsOnCanvas shot.scene.w shot.scene.h r.area) shot.records

@@ -1,7 +1,8 @@
 -- Changes of one object.
-use Rattle.std.specs.Prelude.{◌≡◌, ℕ, ℤ, pos, neg_ℤ, Bool, true, ◌&&◌, false, int_le, unsigned_abs, List, [], None}
+use Rattle.std.specs.Prelude.{◌≡◌, ℕ, ℤ, pos, neg_ℤ, Bool, true, ◌&&◌, false, int_le, unsigned_abs, List, [], Some, None}
 use Rattle.ev_argb.specs.Argb.{Argb, clamped}
 use Rattle.ev_geom.specs.Area.{is_place, is_side, nowhere}
+use Rattle.ev_model.specs.Glyphs.{IsText}
 use Rattle.ev_model.specs.Limits.{IsFill, IsBorder}
 use Rattle.ev_model.specs.declared.content.Border.{Border}
 use Rattle.ev_model.specs.declared.content.Content.{Content}
@@ -9,20 +10,25 @@ use Rattle.ev_model.specs.declared.content.Content.TheVariants as content
 use Rattle.ev_model.specs.declared.content.Fill.{Fill}
 use Rattle.ev_model.specs.declared.content.Fill.TheVariants.{Filled, Area}
 use Rattle.ev_model.specs.declared.content.ImagePart.{ImagePart}
+use Rattle.ev_model.specs.declared.content.TextPart.{TextPart}
 use Rattle.ev_model.specs.declared.content.Kind.{Kind}
 use Rattle.ev_model.specs.declared.content.Kind.TheVariants as kind
 use Rattle.ev_model.specs.declared.object.Object.{Object}
 use Rattle.ev_model.specs.declared.object.Op.TheVariants.{Blend}
 use Rattle.ev_scene.specs.declared.drawing.Drawing.{Drawing}
 use Rattle.ev_scene.specs.declared.drawing.Drawing.TheVariants as drawing
+use Rattle.ev_scene.specs.declared.writing.Writing.{Writing}
+use Rattle.ev_scene.specs.declared.writing.Writing.TheVariants as writing
 use Rattle.ev_scene.specs.declared.change.Change.{Change}
 use Rattle.ev_scene.specs.declared.change.Change.TheVariants as change
 
--- how an image object draws its image, after a change
+-- what an image object draws and how, after a change. Another file drops the pixels
 abbrev pub draw_part : Drawing → ImagePart → ImagePart
 draw_part (drawing.Fill fill) part = record part { fill = fill }
 draw_part (drawing.Border border) part = record part { border = border }
 draw_part (drawing.Center on) part = record part { center = on }
+draw_part (drawing.File key) part = record part { key = Some key; loaded = None }
+draw_part (drawing.Load loaded) part = record part { loaded = Some loaded }
 
 -- the same for the content of any object
 abbrev pub drawn : Drawing → Content → Content
@@ -30,6 +36,19 @@ drawn d content.Rect = content.Rect
 drawn d content.Smart = content.Smart
 drawn d (content.Image part) = content.Image (draw_part d part)
 drawn d (content.Text part) = content.Text part
+
+-- what a text object says and by which font, after a change. Another file drops the font
+abbrev pub write_part : Writing → TextPart → TextPart
+write_part (writing.Font key) part = record part { key = Some key; loaded = None }
+write_part (writing.Load loaded) part = record part { loaded = Some loaded }
+write_part (writing.Say text) part = record part { text = text }
+
+-- the same for the content of any object
+abbrev pub written : Writing → Content → Content
+written w content.Rect = content.Rect
+written w content.Smart = content.Smart
+written w (content.Image part) = content.Image part
+written w (content.Text part) = content.Text (write_part w part)
 
 -- an object after a change
 abbrev pub apply : Change → Object → Object
@@ -40,6 +59,7 @@ apply (change.Paint color) o = record o { color = color }
 apply (change.Treat op) o = record o { op = op }
 apply (change.Lift layer) o = record o { layer = layer }
 apply (change.Draw d) o = record o { content = drawn d o.content }
+apply (change.Write w) o = record o { content = written w o.content }
 apply (change.Clip clipper) o = record o { clipper = clipper }
 apply (change.Enter parent) o = record o { parent = parent }
 
@@ -71,6 +91,14 @@ abbrev pub IsDrawing : Drawing → Type 0
 IsDrawing (drawing.Fill fill) = IsFill fill
 IsDrawing (drawing.Border border) = IsBorder border
 IsDrawing (drawing.Center on) = Unit {0}
+IsDrawing (drawing.File key) = Unit {0}
+IsDrawing (drawing.Load loaded) = Unit {0}
+
+-- what a text says keeps the limits of texts
+abbrev pub IsWriting : Writing → Type 0
+IsWriting (writing.Font key) = Unit {0}
+IsWriting (writing.Load loaded) = Unit {0}
+IsWriting (writing.Say text) = IsText text
 
 -- a change that leaves the layer, the clipper and the parent, and whose numbers are in range
 abbrev pub IsLook : Change → Type 0
@@ -80,6 +108,7 @@ IsLook (change.Appear on) = Unit {0}
 IsLook (change.Paint color) = Unit {0}
 IsLook (change.Treat op) = Unit {0}
 IsLook (change.Draw d) = IsDrawing d
+IsLook (change.Write w) = IsWriting w
 IsLook (change.Lift layer) = ⊥
 IsLook (change.Clip clipper) = ⊥
 IsLook (change.Enter parent) = ⊥
@@ -111,13 +140,6 @@ content_of kind.Rect = content.Rect
 content_of kind.Smart = content.Smart
 content_of kind.Image = content.Image (record { key = None; loaded = None; fill = Filled; border = record { l = 0; r = 0; t = 0; b = 0 }; center = true })
 content_of kind.Text = content.Text (record { key = None; loaded = None; text = [] })
-
--- texts are not made yet
-abbrev pub is_made : Kind → Bool
-is_made kind.Rect = true
-is_made kind.Smart = true
-is_made kind.Image = true
-is_made kind.Text = false
 
 -- a new object: at 0, 0, without size, hidden, white, blended, in layer 0, and over it nothing
 abbrev pub fresh : ℕ → List ℕ → Kind → Object

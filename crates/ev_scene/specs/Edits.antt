@@ -19,33 +19,11 @@ use Rattle.ev_links.specs.Ties.{has}
 use Rattle.ev_groups.specs.Groups.{group, with_group, siblings}
 use Rattle.ev_scene.specs.Slots.{of_id, put, live}
 use Rattle.ev_scene.specs.Board.{Board, named, inside}
-use Rattle.ev_scene.specs.Change.{apply, fresh, is_layer, is_canvas, are_channels, color_of, is_made, is_fill, fill_of, is_border, border_of}
+use Rattle.ev_scene.specs.Change.{apply, fresh, is_layer, is_canvas, are_channels, color_of, is_fill, fill_of, is_border, border_of}
 use Rattle.ev_scene.specs.declared.drawing.Drawing.TheVariants as drawing
+use Rattle.ev_scene.specs.declared.writing.Writing.TheVariants as writing
 use Rattle.ev_scene.specs.declared.change.Change.{Change}
 use Rattle.ev_scene.specs.declared.change.Change.TheVariants as change
-
--- the edits that are carried out so far
-abbrev pub is_built : Edit → Bool
-is_built (edit.Size w h) = true
-is_built (edit.Make name kind) = is_made kind
-is_built (edit.Delete name) = true
-is_built (edit.Move name x y) = true
-is_built (edit.Resize name w h) = true
-is_built (edit.Show name on) = true
-is_built (edit.Color name r g b a) = true
-is_built (edit.SetOp name op) = true
-is_built (edit.Layer name layer) = true
-is_built (edit.Raise name up) = true
-is_built (edit.Place name other above) = true
-is_built (edit.Clip name clipper) = true
-is_built (edit.Unclip name) = true
-is_built (edit.Member name smart) = true
-is_built (edit.Free name) = true
-is_built (edit.Fill name x y w h) = true
-is_built (edit.Filled name) = true
-is_built (edit.Border name l r t b) = true
-is_built (edit.Center name on) = true
-is_built other = false
 
 -- refused, unless a test holds
 abbrev pub unless : Bool → Refusal → Option Refusal
@@ -111,6 +89,14 @@ is_image other = false
 abbrev pub image_verdict : Bool → Object → Option Refusal
 image_verdict in_range o = if not (is_image o.content) then Some refusal.Kind else unless in_range refusal.Range
 
+abbrev pub is_text : Content → Bool
+is_text (content.Text part) = true
+is_text other = false
+
+-- only a text object says something
+abbrev pub text_verdict : Object → Option Refusal
+text_verdict o = unless (is_text o.content) refusal.Kind
+
 -- a new object needs a free name, and fewer than 65,536 objects that are there
 abbrev pub make_verdict : Board → List ℕ → Option Refusal
 make_verdict board name = option_map_or (λ o. Some refusal.Exists) (named board.objects name) (unless (nat_lt (length (live board.objects)) 65536) refusal.Full)
@@ -131,12 +117,14 @@ verdict board (edit.Place name other above) = known board name (λ o. known boar
 verdict board (edit.Clip name clipper) = known board name (λ o. known board clipper (clip_verdict board o))
 verdict board (edit.Unclip name) = known board name (λ o. None)
 verdict board (edit.Member name smart) = known board name (λ o. known board smart (join_verdict board o))
+verdict board (edit.Free name) = known board name (λ o. unless (not (is_clipping board o)) refusal.Clipping)
+verdict board (edit.File name key) = known board name (image_verdict true)
+verdict board (edit.Font name key) = known board name text_verdict
+verdict board (edit.Say name text) = known board name text_verdict
 verdict board (edit.Fill name x y w h) = known board name (image_verdict (is_fill x y w h))
 verdict board (edit.Filled name) = known board name (image_verdict true)
 verdict board (edit.Border name l r t b) = known board name (image_verdict (is_border l r t b))
 verdict board (edit.Center name on) = known board name (image_verdict true)
-verdict board (edit.Free name) = known board name (λ o. unless (not (is_clipping board o)) refusal.Clipping)
-verdict board other = None
 
 -- what is made of the object of a name; where there is none, nothing changes
 abbrev pub with_named : Board → List ℕ → (Object → Board) → Board
@@ -232,11 +220,13 @@ effect board (edit.Clip name clipper) = with_named board name (λ o. with_named 
 effect board (edit.Unclip name) = with_named board name (changed (change.Clip None) board)
 effect board (edit.Member name smart) = with_named board name (λ o. with_named board smart (λ s. homed (Some s.id) board o))
 effect board (edit.Free name) = with_named board name (homed None board)
+effect board (edit.File name key) = with_named board name (changed (change.Draw (drawing.File key)) board)
+effect board (edit.Font name key) = with_named board name (changed (change.Write (writing.Font key)) board)
+effect board (edit.Say name text) = with_named board name (changed (change.Write (writing.Say text.now)) board)
 effect board (edit.Fill name x y w h) = with_named board name (changed (change.Draw (drawing.Fill (fill_of x y w h))) board)
 effect board (edit.Filled name) = with_named board name (changed (change.Draw (drawing.Fill Filled)) board)
 effect board (edit.Border name l r t b) = with_named board name (changed (change.Draw (drawing.Border (border_of l r t b))) board)
 effect board (edit.Center name on) = with_named board name (changed (change.Draw (drawing.Center on)) board)
-effect board other = board
 
 -- an edit is refused by its first refusal; where there is none, memory may be wanting
 abbrev pub Refuses : Option Refusal → Refusal → Type 0

@@ -3,6 +3,7 @@ pub mod Ties
 pub mod Board
 pub mod Change
 pub mod Edits
+pub mod Loads
 pub mod Captured
 pub mod Roll
 pub mod Whole

@@ -1,12 +1,17 @@
 // Changes of one object, and new objects.
-ghost use Rattle.std.specs.Prelude.{◌≡◌, ◌&&◌, true, Some, None, IfSome, unsigned_abs, if◌then◌else◌};
+ghost use Rattle.std.specs.Prelude.{◌≡◌, ◌&&◌, true, Some, None, IfSome, IfOk, unsigned_abs, if◌then◌else◌};
 ghost use Rattle.ev_geom.specs.Area.{is_place, is_side};
-ghost use Rattle.ev_scene.specs.Change.{apply, is_between, is_layer, is_channel, are_channels, color_of, fresh, content_of, is_made, IsFit, IsLook};
+ghost use Rattle.ev_model.specs.declared.content.Content.TheVariants as content;
+ghost use Rattle.ev_model.specs.declared.content.Kind.TheVariants as kind;
+ghost use Rattle.ev_scene.specs.Change.{apply, is_between, is_layer, is_channel, are_channels, color_of, fresh, content_of, IsFit, IsLook};
 
+use crate::NoMemory;
 use crate::drawing::{Drawing, draw};
+use crate::writing::{Writing, write};
 use ev_argb::Pixel;
 use ev_geom::{Rect, is_place, is_side};
-use ev_model::{Border, Content, Fill, ImagePart, Kind, Name, Object, Op};
+use ev_model::{Border, Content, Fill, ImagePart, Kind, Name, Object, Op, TextPart, Words};
+use std::alloc::Global;
 
 // A change of one object. Its numbers are in range.
 #[derive(Drop)]
@@ -17,23 +22,25 @@ pub enum Change {
     Paint(Pixel),
     Treat(Op),
     Draw(Drawing),
+    Write(Writing),
     Lift(i64),
     Clip(Option<u64>),
     Enter(Option<u64>),
 }
 
 // Changes an object.
-pub fn apply(change: &Change, object: &mut Object)
-    requires { IsFit change.now }
-    ensures { object.new ≡ apply change.now object.old }
+pub fn apply(change: Change, object: &mut Object)
+    requires { IsFit change }
+    ensures { object.new ≡ apply change object.old }
 {
-    match *change {
+    match change {
         Change::Place { x, y } => object.rect = object.rect.placed(x, y),
         Change::Side { w, h } => object.rect = object.rect.sized(w, h),
         Change::Appear(on) => object.shown = on,
         Change::Paint(color) => object.color = color,
         Change::Treat(op) => object.op = op,
         Change::Draw(drawing) => draw(drawing, &mut object.content),
+        Change::Write(writing) => write(writing, &mut object.content),
         Change::Lift(layer) => object.layer = layer as i32,
         Change::Clip(clipper) => object.clipper = clipper,
         Change::Enter(parent) => object.parent = parent,
@@ -115,12 +122,12 @@ pub fn is_layer(n: i64) -> bool
     is_between(-32_768, 32_767, n)
 }
 
-// A new object.
-pub fn fresh(id: u64, name: Name, kind: Kind) -> Object
-    requires { is_made kind ≡ true }
-    ensures { result ≡ fresh id name kind }
+// A new object. `NoMemory` stands for a text without room.
+pub fn fresh(alloc: Global, id: u64, name: Name, kind: Kind) -> Result<Object, NoMemory>
+    ensures { IfOk result (λ o. o ≡ fresh id name kind) }
 {
-    Object {
+    let content = content_of(alloc, kind)?;
+    Ok(Object {
         id,
         name,
         rect: Rect::NOWHERE,
@@ -130,30 +137,48 @@ pub fn fresh(id: u64, name: Name, kind: Kind) -> Object
         layer: 0,
         clipper: None,
         parent: None,
-        content: content_of(kind),
-    }
+        content,
+    })
 }
 
 // The content of a new object.
-fn content_of(kind: Kind) -> Content
-    requires { is_made kind ≡ true }
-    ensures { result ≡ content_of kind }
+fn content_of(alloc: Global, kind: Kind) -> Result<Content, NoMemory>
+    ensures { IfOk result (λ content. content ≡ content_of kind) }
 {
     match kind {
-        Kind::Rect => Content::Rect,
-        Kind::Smart => Content::Smart,
-        Kind::Image => Content::Image(ImagePart {
-            key: None,
-            loaded: None,
-            fill: Fill::Filled,
-            border: Border {
-                l: 0,
-                r: 0,
-                t: 0,
-                b: 0,
-            },
-            center: true,
-        }),
-        Kind::Text => unreachable!(),
+        Kind::Rect => Ok(Content::Rect),
+        Kind::Smart => Ok(Content::Smart),
+        Kind::Image => Ok(Content::Image(new_image())),
+        Kind::Text => Ok(Content::Text(new_text(alloc)?)),
     }
+}
+
+// An image that fills its object, without a file.
+fn new_image() -> ImagePart
+    ensures { content.Image result ≡ content_of kind.Image }
+{
+    ImagePart {
+        key: None,
+        loaded: None,
+        fill: Fill::Filled,
+        border: Border {
+            l: 0,
+            r: 0,
+            t: 0,
+            b: 0,
+        },
+        center: true,
+    }
+}
+
+// An empty text without a font.
+fn new_text(alloc: Global) -> Result<TextPart, NoMemory>
+    ensures { IfOk result (λ part. content.Text part ≡ content_of kind.Text) }
+{
+    let text = Words::new(alloc, b"")?;
+    Ok(TextPart {
+        key: None,
+        loaded: None,
+        text,
+    })
 }

@@ -1,4 +1,4 @@
-// How an image object draws its image.
+// What an image object draws, and how.
 ghost use Rattle.std.specs.Prelude.{◌≡◌, ◌≤◌, ◌&&◌, true, pos, Some, None, IfSome, unsigned_abs, if◌then◌else◌};
 ghost use Rattle.ev_geom.specs.Area.{is_place};
 ghost use Rattle.ev_model.specs.Limits.{IsFill, IsBorder};
@@ -6,14 +6,16 @@ ghost use Rattle.ev_scene.specs.Change.{is_between, draw_part, drawn, is_fill, f
 
 use crate::change::{Change, is_between};
 use ev_geom::is_place;
-use ev_model::{Border, Content, Fill, ImagePart};
+use ev_model::{Border, Content, Fill, ImagePart, LoadedImage, Name};
 
-// A change of how an image is drawn. Its numbers are in range.
-#[derive(Clone, Copy)]
+// A change of the image that is drawn, or of how that is done. Its numbers are in range.
+#[derive(Drop)]
 pub enum Drawing {
     Fill(Fill),
     Border(Border),
     Center(bool),
+    File(Name),
+    Load(LoadedImage),
 }
 
 // Changes how a content is drawn, if it is that of an image object.
@@ -33,6 +35,11 @@ fn draw_part(drawing: Drawing, part: &mut ImagePart)
         Drawing::Fill(fill) => part.fill = fill,
         Drawing::Border(border) => part.border = border,
         Drawing::Center(on) => part.center = on,
+        Drawing::File(key) => {
+            part.key = Some(key);
+            part.loaded = None;
+        }
+        Drawing::Load(loaded) => part.loaded = Some(loaded),
     }
 }
 

@@ -1,11 +1,12 @@
 // Edits of a scene.
 ghost use Rattle.std.specs.Prelude.{◌≡◌, ℕ, ◌+◌, ◌≤◌, true, is_some, IfSome, OnOk, IfErr, None, if◌then◌else◌};
 ghost use Rattle.std.specs.Option.{ForSome};
+ghost use Rattle.ev_model.specs.Limits.{IsEdit};
 ghost use Rattle.ev_model.specs.declared.command.Edit.TheVariants as edit;
 ghost use Rattle.ev_model.specs.declared.refusal.Refusal.TheVariants as refusal;
 ghost use Rattle.ev_scene.specs.Cast.{IsCast, board_of};
-ghost use Rattle.ev_scene.specs.Change.{IsLook, is_made};
-ghost use Rattle.ev_scene.specs.Edits.{is_built, known, unless, image_verdict, with_named, changed, Refuses, Edits, writes};
+ghost use Rattle.ev_scene.specs.Change.{IsLook};
+ghost use Rattle.ev_scene.specs.Edits.{known, unless, image_verdict, with_named, changed, Refuses, Edits, writes};
 
 use crate::cast::Cast;
 use crate::change::{Change, fresh, is_between, paint, side};
@@ -19,7 +20,7 @@ impl Cast {
     // Carries out an edit.
     pub fn edit(&mut self, edit: &Edit) -> Result<(), Refusal>
         requires whole { IsCast self.old }
-        requires built { is_built edit.now ≡ true }
+        requires text { IsEdit edit.now }
         ensures whole { IsCast self.new }
         ensures edits { Edits (board_of self.old) edit.now result (board_of self.new) }
         ensures made { self.new.roll.made ≤ self.old.roll.made + writes (board_of self.old) edit.now }
@@ -30,9 +31,9 @@ impl Cast {
             Edit::Make { name, kind } => self.make(name, *kind),
             Edit::Delete { name } => self.delete(name),
             Edit::Move { name, x, y } => self.shift(name, *x, *y),
-            Edit::Resize { name, w, h } => self.change(name, &side(*w, *h)),
-            Edit::Show { name, on } => self.change(name, &Some(Change::Appear(*on))),
-            Edit::Color { name, r, g, b, a } => self.change(name, &paint(*r, *g, *b, *a)),
+            Edit::Resize { name, w, h } => self.change(name, side(*w, *h)),
+            Edit::Show { name, on } => self.change(name, Some(Change::Appear(*on))),
+            Edit::Color { name, r, g, b, a } => self.change(name, paint(*r, *g, *b, *a)),
             Edit::SetOp { name, op } => self.treat(name, *op),
             Edit::Layer { name, layer } => self.relayer(name, *layer),
             Edit::Raise { name, up } => self.restack(name, *up),
@@ -41,14 +42,16 @@ impl Cast {
             Edit::Unclip { name } => self.unclip(name),
             Edit::Member { name, smart } => self.join(name, smart),
             Edit::Free { name } => self.leave(name),
-            Edit::Fill { name, x, y, w, h } => self.draw(name, &fill(*x, *y, *w, *h)),
+            Edit::File { name, key } => self.draw(name, Some(Change::Draw(Drawing::File(*key)))),
+            Edit::Font { name, key } => self.font(name, *key),
+            Edit::Say { name, text } => self.say(name, text),
+            Edit::Fill { name, x, y, w, h } => self.draw(name, fill(*x, *y, *w, *h)),
             Edit::Filled { name } => self.draw(
                 name,
-                &Some(Change::Draw(Drawing::Fill(Fill::Filled))),
+                Some(Change::Draw(Drawing::Fill(Fill::Filled))),
             ),
-            Edit::Border { name, l, r, t, b } => self.draw(name, &border(*l, *r, *t, *b)),
-            Edit::Center { name, on } => self.draw(name, &Some(Change::Draw(Drawing::Center(*on)))),
-            _ => unreachable!(),
+            Edit::Border { name, l, r, t, b } => self.draw(name, border(*l, *r, *t, *b)),
+            Edit::Center { name, on } => self.draw(name, Some(Change::Draw(Drawing::Center(*on)))),
         }
     }
 
@@ -70,7 +73,6 @@ impl Cast {
     // A new object on top of layer 0.
     fn make(&mut self, name: &Name, kind: Kind) -> Result<(), Refusal>
         requires whole { IsCast self.old }
-        requires plain { is_made kind ≡ true }
         ensures whole { IsCast self.new }
         ensures edits { Edits (board_of self.old) (edit.Make name.now kind) result (board_of self.new) }
         ensures made { self.new.roll.made ≤ self.old.roll.made + 1 }
@@ -85,7 +87,8 @@ impl Cast {
         let id = self.roll.next_id();
         let _ties = self.links.len();
         self.roll.reserve()?;
-        let state = self.roll.make(fresh(id, *name, kind))?;
+        let object = fresh(self.roll.alloc(), id, *name, kind)?;
+        let state = self.roll.make(object)?;
         self.links.add(id, kind)?;
         if let Err(_) = self.groups.add(0) {
             let Ok(()) = self.links.drop_id(id) else {
@@ -98,13 +101,13 @@ impl Cast {
     }
 
     // Changes how an object looks. No change stands for numbers out of range.
-    fn change(&mut self, name: &Name, change: &Option<Change>) -> Result<(), Refusal>
+    fn change(&mut self, name: &Name, change: Option<Change>) -> Result<(), Refusal>
         requires whole { IsCast self.old }
-        requires look { ForSome change.now IsLook }
+        requires look { ForSome change IsLook }
         ensures whole { IsCast self.new }
-        ensures ok { OnOk result ((known (board_of self.old) name.now (λ o. unless (is_some change.now) refusal.Range) ≡ None)
-            × IfSome change.now (λ c. board_of self.new ≡ with_named (board_of self.old) name.now (changed c (board_of self.old)))) }
-        ensures err { IfErr result (λ cause. Refuses (known (board_of self.old) name.now (λ o. unless (is_some change.now) refusal.Range)) cause
+        ensures ok { OnOk result ((known (board_of self.old) name.now (λ o. unless (is_some change) refusal.Range) ≡ None)
+            × IfSome change (λ c. board_of self.new ≡ with_named (board_of self.old) name.now (changed c (board_of self.old)))) }
+        ensures err { IfErr result (λ cause. Refuses (known (board_of self.old) name.now (λ o. unless (is_some change) refusal.Range)) cause
             × (board_of self.new ≡ board_of self.old)) }
         ensures made { self.new.roll.made ≤ self.old.roll.made + 1 }
         ensures grows { self.old.roll.made ≤ self.new.roll.made }
@@ -135,18 +138,18 @@ impl Cast {
             return Err(Refusal::Kind);
         }
         let id = object.id;
-        self.roll.change(id, &Change::Treat(op))?;
+        self.roll.change(id, Change::Treat(op))?;
         Ok(())
     }
 
     // Changes how an image object draws its image. No change stands for numbers out of range.
-    fn draw(&mut self, name: &Name, change: &Option<Change>) -> Result<(), Refusal>
+    fn draw(&mut self, name: &Name, change: Option<Change>) -> Result<(), Refusal>
         requires whole { IsCast self.old }
-        requires look { ForSome change.now IsLook }
+        requires look { ForSome change IsLook }
         ensures whole { IsCast self.new }
-        ensures ok { OnOk result ((known (board_of self.old) name.now (image_verdict (is_some change.now)) ≡ None)
-            × IfSome change.now (λ c. board_of self.new ≡ with_named (board_of self.old) name.now (changed c (board_of self.old)))) }
-        ensures err { IfErr result (λ cause. Refuses (known (board_of self.old) name.now (image_verdict (is_some change.now))) cause
+        ensures ok { OnOk result ((known (board_of self.old) name.now (image_verdict (is_some change)) ≡ None)
+            × IfSome change (λ c. board_of self.new ≡ with_named (board_of self.old) name.now (changed c (board_of self.old)))) }
+        ensures err { IfErr result (λ cause. Refuses (known (board_of self.old) name.now (image_verdict (is_some change))) cause
             × (board_of self.new ≡ board_of self.old)) }
         ensures made { self.new.roll.made ≤ self.old.roll.made + 1 }
         ensures grows { self.old.roll.made ≤ self.new.roll.made }

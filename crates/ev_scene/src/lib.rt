@@ -9,6 +9,7 @@ mod drawing;
 mod edit;
 mod label;
 mod linking;
+mod loads;
 mod roll;
 mod scene_box;
 mod shift;
@@ -16,6 +17,7 @@ mod sights;
 mod stacking;
 #[cfg(test)]
 mod tests;
+mod writing;
 
 pub use capture::Captured;
 pub use edit::MAX_OBJECTS;

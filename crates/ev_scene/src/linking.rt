@@ -40,7 +40,7 @@ impl Cast {
         if let Some(fault) = self.links.clip_fault(id, by) {
             return Err(refusal_of(fault));
         }
-        self.roll.change(id, &Change::Clip(Some(by)))?;
+        self.roll.change(id, Change::Clip(Some(by)))?;
         let Ok(()) = self.links.clip(id, by) else {
             unreachable!()
         };
@@ -59,7 +59,7 @@ impl Cast {
             return Err(Refusal::Unknown);
         };
         let id = object.id;
-        self.roll.change(id, &Change::Clip(None))?;
+        self.roll.change(id, Change::Clip(None))?;
         let Ok(()) = self.links.unclip(id) else {
             unreachable!()
         };
@@ -139,7 +139,7 @@ impl Cast {
         };
         let (from, layer) = (object.parent, object.layer);
         push_into(&mut self.groups, to, id, layer)?;
-        if let Err(cause) = self.roll.change(id, &Change::Enter(to)) {
+        if let Err(cause) = self.roll.change(id, Change::Enter(to)) {
             remove_from(&mut self.groups, to, id);
             return Err(cause);
         }

@@ -154,11 +154,12 @@ impl Roll {
     }
 
     // Changes the object of an id, whose state is copied first where others hold it.
-    pub fn change(&mut self, id: u64, change: &Change) -> Result<(), NoMemory>
+    pub fn change(&mut self, id: u64, change: Change) -> Result<(), NoMemory>
         requires there { is_some (of_id self.old.states id) ≡ true }
-        requires fit { IsFit change.now }
+        requires fit { IsFit change }
         ensures ok { OnOk result (values_of self.new.states
-            ≡ put (values_of self.old.states) id (option_map (apply change.now) (of_id (values_of self.old.states) id))) }
+            ≡ put (values_of self.old.states) id (option_map (apply change) (of_id (values_of self.old.states) id))) }
+        ensures alone { OnOk result (self.new.states ≡ put self.old.states id (of_id self.new.states id)) }
         ensures err { OnErr result (self.new.states ≡ self.old.states) }
         ensures grows { self.old.made ≤ self.new.made }
         ensures made { self.new.made ≤ self.old.made + 1 }

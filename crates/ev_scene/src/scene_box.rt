@@ -1,15 +1,20 @@
 // A scene that edits change.
-ghost use Rattle.std.specs.Prelude.{◌≡◌, ◌+◌, ◌≤◌, [], ◌∷◌, true, IfOk, option_map, Some};
+ghost use Rattle.std.specs.Prelude.{◌≡◌, ◌+◌, ◌≤◌, [], ◌∷◌, IfOk, IfSome, OnOk, OnErr, option_map, option_and_then, Some};
+ghost use Rattle.std.specs.Arc.{arc_value};
 ghost use Rattle.ev_model.specs.Content.{kind_of};
-ghost use Rattle.ev_scene.specs.Slots.{of_id};
+ghost use Rattle.ev_model.specs.Limits.{IsEdit};
+ghost use Rattle.ev_scene.specs.Slots.{of_id, put};
 ghost use Rattle.ev_scene.specs.Board.{board, named};
-ghost use Rattle.ev_scene.specs.Edits.{is_built, Edits, writes};
+ghost use Rattle.ev_scene.specs.Edits.{Edits, writes};
+ghost use Rattle.ev_scene.specs.Loads.{key_of, with_image, with_font};
 
 use crate::NoMemory;
 use crate::cast::Cast;
-use ev_model::{Edit, Kind, Name, Refusal};
+use crate::loads::key_of;
+use ev_model::{Edit, Font, Image, Kind, Name, Refusal};
 use std::alloc::Global;
 use std::marker::Model;
+use std::sync::Arc;
 
 /// A canvas and the objects on it, as edits change them (docs/CANVAS.md, "Objects").
 #[derive(Drop)]
@@ -40,7 +45,8 @@ impl SceneBox {
 
     /// The id of the object of a name. None exactly where there is none.
     pub fn find(&self, name: &Name) -> Option<u64>
-        ensures { result ≡ option_map (λ o. o.id) (named (board self.now).objects name.now) }
+        ensures value { result ≡ option_map (λ o. o.id) (named (board self.now).objects name.now) }
+        ensures there { IfSome result (λ id. of_id (board self.now).objects id ≡ named (board self.now).objects name.now) }
     {
         match self.cast.roll.named(name) {
             Some(object) => Some(object.id),
@@ -58,15 +64,62 @@ impl SceneBox {
         }
     }
 
+    /// The file that a load of the object of an id fetches. None exactly where there is no such
+    /// object or it has no file; rectangles and smart objects never have one.
+    pub fn key_of(&self, id: u64) -> Option<Name>
+        ensures { result ≡ option_and_then (λ o. key_of o.content) (of_id (board self.now).objects id) }
+    {
+        match self.cast.roll.object(id) {
+            Some(object) => key_of(&object.content),
+            None => None,
+        }
+    }
+
     /// Carries out an edit, or refuses it and leaves the scene as it was (docs/SCRIPT.md,
     /// "Commands"). An edit takes all its memory before it changes anything.
     pub fn edit(&mut self, edit: &Edit) -> Result<(), Refusal>
-        requires built { is_built edit.now ≡ true }
+        requires text { IsEdit edit.now }
         ensures edits { Edits (board self.old) edit.now result (board self.new) }
         ensures made { self.new.made ≤ self.old.made + writes (board self.old) edit.now }
         ensures grows { self.old.made ≤ self.new.made }
     {
         self.cast.edit(edit)
+    }
+
+    /// The image object of an id gets the pixels that the load of this number gave. `NoMemory`
+    /// where there is no room for a copy of its state; then the scene stays as it was.
+    pub fn set_image(
+        &mut self,
+        id: u64,
+        number: u64,
+        image: Arc<Image, Global>,
+    ) -> Result<(), NoMemory>
+        requires { option_map (λ o. kind_of o.content) (of_id (board self.old).objects id) ≡ Some Kind.Image }
+        ensures ok { OnOk result (board self.new ≡ with_image (board self.old) id number (arc_value image)) }
+        ensures alone { OnOk result (self.new.states ≡ put self.old.states id (of_id self.new.states id)) }
+        ensures err { OnErr result (self.new ≡ record self.old { made = self.new.made }) }
+        ensures made { self.new.made ≤ self.old.made + 1 }
+        ensures grows { self.old.made ≤ self.new.made }
+    {
+        self.cast.set_image(id, number, image)
+    }
+
+    /// The text object of an id gets the font that the load of this number gave. `NoMemory`
+    /// where there is no room for a copy of its state; then the scene stays as it was.
+    pub fn set_font(
+        &mut self,
+        id: u64,
+        number: u64,
+        font: Arc<Font, Global>,
+    ) -> Result<(), NoMemory>
+        requires { option_map (λ o. kind_of o.content) (of_id (board self.old).objects id) ≡ Some Kind.Text }
+        ensures ok { OnOk result (board self.new ≡ with_font (board self.old) id number (arc_value font)) }
+        ensures alone { OnOk result (self.new.states ≡ put self.old.states id (of_id self.new.states id)) }
+        ensures err { OnErr result (self.new ≡ record self.old { made = self.new.made }) }
+        ensures made { self.new.made ≤ self.old.made + 1 }
+        ensures grows { self.old.made ≤ self.new.made }
+    {
+        self.cast.set_font(id, number, font)
     }
 
     /// How many states of objects were made, copies included.

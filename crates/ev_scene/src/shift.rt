@@ -40,7 +40,7 @@ impl Cast {
             let (dx, dy) = (distance(object.rect.x(), x), distance(object.rect.y(), y));
             return self.shift_group(id, dx, dy);
         }
-        self.roll.change(id, &change)?;
+        self.roll.change(id, change)?;
         Ok(())
     }
 

@@ -30,7 +30,7 @@ impl Cast {
         if !is_layer(layer) {
             return Err(Refusal::Range);
         }
-        self.roll.change(id, &Change::Lift(layer))?;
+        self.roll.change(id, Change::Lift(layer))?;
         relayer_in(&mut self.groups, parent, id, layer as i32);
         Ok(())
     }

@@ -1,6 +1,5 @@
 // A scene that is edited and captured.
-ghost use Rattle.std.specs.Prelude.{◌≡◌, true};
-ghost use Rattle.ev_scene.specs.Edits.{is_built};
+ghost use Rattle.ev_model.specs.Limits.{IsEdit};
 
 use crate::SceneBox;
 use ev_geom::Rect;
@@ -9,7 +8,7 @@ use std::test::Fail;
 
 // Whether an edit is carried out.
 fn is_done(scene: &mut SceneBox, edit: &Edit) -> bool
-    requires { is_built edit.now ≡ true }
+    requires { IsEdit edit.now }
 {
     scene.edit(edit).is_ok()
 }

@@ -2,11 +2,13 @@ use Rattle.std.proofs.Common.{◌≡◌, ℕ, List, All, length, None, sym, subs
 use Rattle.std.specs.Prelude.{IsTrue}
 use Rattle.ev_model.specs.Chain.{ends}
 use Rattle.ev_model.specs.Limits.{IsObject}
+use Rattle.ev_model.specs.Stage.{values}
 use Rattle.ev_model.specs.Up.{with_id, next}
 use Rattle.ev_model.specs.declared.object.Object.{Object}
 use Rattle.ev_scene.specs.Slots.{of_id}
 use Rattle.ev_scene.specs.Board.{values_of, ids_in}
 use Rattle.ev_scene.specs.Cast.{board_of}
+use Rattle.ev_scene.proofs.Bounding.{records_lie}
 use Rattle.ev_scene.proofs.Capturing.{are_objects, limits_in_order}
 use Rattle.ev_scene.proofs.Trees.{order_found, ways}
 use Rattle.ev_scene.proofs.cast.Cast.capture.Goals as goal
@@ -31,4 +33,5 @@ invariant_of-result c =
       h_high = c.requires.h_high;
       objects = are_objects c.in_ok-objects.objects (subst P (sym (c.in_ok-objects.ensures)) (limits_in_order (values_of c.args.self.now.roll.states) (ids_in (board_of c.args.self.now) None) c.requires.limits));
       looks = (c.in_ok-records.ensures);
+      areas = records_lie (record { w = c.args.self.now.w; h = c.args.self.now.h; objects = values c.in_ok-objects.objects }) _ c.in_ok-records.ensures;
     }

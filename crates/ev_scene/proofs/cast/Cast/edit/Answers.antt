@@ -47,9 +47,9 @@ returns-in-Fill-clause-edits c =
     let y : FitsSigned w64 c.in-Fill.y = search rules in
     let w : FitsSigned w64 c.in-Fill.w = search rules in
     let h : FitsSigned w64 c.in-Fill.h = search rules in
-    let P : Edit → Type 0 = λ edit. Edits (board_of c.args.self.now) edit c.draw.result (board_of c.draw.new.self) in
+    let P : Edit → Type 0 = λ edit. Edits (board_of c.args.self.now) edit c.draw-in-Fill.result (board_of c.draw-in-Fill.new.self) in
     subst P (sym c.in-Fill.is) (draw_answers (board_of c.args.self.now) c.in-Fill.name (is_fill c.in-Fill.x c.in-Fill.y c.in-Fill.w c.in-Fill.h) (change.Draw (drawing.Fill (fill_of c.in-Fill.x c.in-Fill.y c.in-Fill.w c.in-Fill.h)))
-    c.fill.result c.draw.result (board_of c.draw.new.self) (simp to_z-of_z at c.fill.ensures.value) c.draw.ensures.ok c.draw.ensures.err)
+    c.fill.result c.draw-in-Fill.result (board_of c.draw-in-Fill.new.self) (simp to_z-of_z at c.fill.ensures.value) c.draw-in-Fill.ensures.ok c.draw-in-Fill.ensures.err)
 
 pub returns-in-Border-clause-edits : goal.returns-in-Border-clause-edits
 returns-in-Border-clause-edits c =

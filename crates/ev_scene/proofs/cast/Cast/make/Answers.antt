@@ -25,7 +25,7 @@ returns-in-Err-clause-whole c =
 pub returns-clause-whole : goal.returns-clause-whole
 returns-clause-whole c =
     made_to c.args.self.now.w c.args.self.now.h c.args.self.now.roll.states c.args.self.now.groups c.args.self.now.links c.requires.whole
-    c.add-3.new.self.states c.in_ok-state.state c.args.name.now c.args.kind c.next_id-id.result c.add-2.new.self c.add.new.self c.requires.plain c.next_id-id.ensures
-    ((c.in_ok-state.ensures).value ∙ c.fresh.ensures)
+    c.add-3.new.self.states c.in_ok-state.state c.args.name.now c.args.kind c.next_id-id.result c.add-2.new.self c.add.new.self c.next_id-id.ensures
+    ((c.in_ok-state.ensures).value ∙ c.in_ok-object.ensures)
     (c.add-3.ensures.states ∙ ap (λ states. states ++ Some c.in_ok-state.state ∷ []) (c.make.ensures.states ∙ c.reserve.ensures.states))
     (c.in_default.ensures).ok (c.in_ok-add.ensures).ok

@@ -1,0 +1,84 @@
+// What a text object says, and by which font.
+ghost use Rattle.std.specs.Prelude.{◌≡◌, ◌+◌, ◌≤◌};
+ghost use Rattle.ev_model.specs.Glyphs.{IsText};
+ghost use Rattle.ev_model.specs.declared.command.Edit.TheVariants as edit;
+ghost use Rattle.ev_scene.specs.Cast.{IsCast, board_of};
+ghost use Rattle.ev_scene.specs.Change.{write_part, written};
+ghost use Rattle.ev_scene.specs.Edits.{Edits};
+
+use crate::cast::Cast;
+use crate::change::Change;
+use ev_model::{Content, LoadedFont, Name, Refusal, TextPart, Words};
+
+// A change of the text or of its font. The text keeps the limits of texts.
+#[derive(Drop)]
+pub enum Writing {
+    Font(Name),
+    Load(LoadedFont),
+    Say(Words),
+}
+
+// Changes what a content says, if it is that of a text object.
+pub fn write(writing: Writing, content: &mut Content)
+    ensures { content.new ≡ written writing content.old }
+{
+    match content {
+        Content::Text(part) => write_part(writing, part),
+        _ => {}
+    }
+}
+
+fn write_part(writing: Writing, part: &mut TextPart)
+    ensures { part.new ≡ write_part writing part.old }
+{
+    match writing {
+        Writing::Font(key) => {
+            part.key = Some(key);
+            part.loaded = None;
+        }
+        Writing::Load(loaded) => part.loaded = Some(loaded),
+        Writing::Say(text) => part.text = text,
+    }
+}
+
+impl Cast {
+    // The text object gets the font of this file, and loses its font.
+    pub fn font(&mut self, name: &Name, key: Name) -> Result<(), Refusal>
+        requires whole { IsCast self.old }
+        ensures whole { IsCast self.new }
+        ensures edits { Edits (board_of self.old) (edit.Font name.now key) result (board_of self.new) }
+        ensures made { self.new.roll.made ≤ self.old.roll.made + 1 }
+        ensures grows { self.old.roll.made ≤ self.new.roll.made }
+    {
+        let Some(object) = self.roll.named(name) else {
+            return Err(Refusal::Unknown);
+        };
+        if !matches!(object.content, Content::Text(_)) {
+            return Err(Refusal::Kind);
+        }
+        let id = object.id;
+        self.roll.change(id, Change::Write(Writing::Font(key)))?;
+        Ok(())
+    }
+
+    // The text object gets this text.
+    pub fn say(&mut self, name: &Name, text: &[u8]) -> Result<(), Refusal>
+        requires whole { IsCast self.old }
+        requires text { IsText text.now }
+        ensures whole { IsCast self.new }
+        ensures edits { Edits (board_of self.old) (edit.Say name.now text.entry) result (board_of self.new) }
+        ensures made { self.new.roll.made ≤ self.old.roll.made + 1 }
+        ensures grows { self.old.roll.made ≤ self.new.roll.made }
+    {
+        let Some(object) = self.roll.named(name) else {
+            return Err(Refusal::Unknown);
+        };
+        if !matches!(object.content, Content::Text(_)) {
+            return Err(Refusal::Kind);
+        }
+        let id = object.id;
+        let words = Words::new(self.roll.alloc(), text)?;
+        self.roll.change(id, Change::Write(Writing::Say(words)))?;
+        Ok(())
+    }
+}
