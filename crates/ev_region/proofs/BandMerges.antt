@@ -1,15 +1,15 @@
 -- One step of the pass over the bands of two sets of pixels.
-use Rattle.std.proofs.Common.{◌≡◌, ℕ, ◌+◌, ◌≤◌, ◌<◌, Bool, false, List, [], ◌∷◌, ◌++◌, refl, sym, ◌∙◌, arith, subst, ⊎_elim, ◌⊎◌, inl, inr, zero, suc, append_assoc, append-nil}
+use Rattle.std.proofs.Common.{◌≡◌, ℕ, ◌+◌, ◌≤◌, ◌<◌, Bool, true, false, List, [], ◌∷◌, ◌++◌, refl, sym, ap, ap₂, ◌∙◌, arith, subst, ⊎_elim, ◌⊎◌, inl, inr, zero, suc, append_assoc, append-nil}
 use Rattle.std.proofs.lemmas.Bool.{le-leb, lt-leb, cases_lt, cases_eq, eq-eqb, ne_eqb}
 use Rattle.std.proofs.lemmas.Bool.Decides.{nat_tests}
-use Rattle.ev_geom.specs.Bands.{is_inside, IsRow, Band, IsBands}
+use Rattle.ev_geom.specs.Bands.{is_inside, IsRow, Band, row_at, IsBands}
 use Rattle.ev_geom.proofs.Rows.{row_unique}
 use Rattle.ev_geom.proofs.Banding.{row_at-before, IsBands-sooner}
 use Rattle.ev_region.specs.declared.combine.Combine.{Combine}
 use Rattle.ev_region.specs.declared.combine.Combine.TheVariants.{Union, Difference, Intersection}
 use Rattle.ev_region.specs.Combine.{keeps}
 use Rattle.ev_region.specs.RowMerge.{IsRowMerge}
-use Rattle.ev_region.specs.BandMerge.{StartsBelow, bands_at, IsNextTop, IsLeft, PassesTop, PushesRow, IsBandMerge, last_edges}
+use Rattle.ev_region.specs.BandMerge.{StartsBelow, bands_at, IsNextTop, IsLeft, PassesTop, PushesRow, IsBandMerge, last_edges, kept_bands}
 
 -- bands with none that begins above row y
 pub IsBands-from : (limit from y : ℕ) (row : List ℕ) (bands : List Band) → IsBands limit from row bands → StartsBelow y bands → IsBands limit y row bands
@@ -141,20 +141,56 @@ IsBandMerging-begin keeps a b none p q = record {
   so_far = λ rest merges. merges;
 }
 
--- after the last
-at_end : (keeps : Bool → Bool → Bool) (first_a first_b : List Band) (row_a row_b : List ℕ) (merged : List Band) → keeps false false ≡ false → IsBandMerging keeps first_a first_b row_a [] row_b [] merged → IsBandMerge keeps 0 [] first_a [] first_b [] merged
-at_end keeps first_a first_b row_a row_b merged none was =
-    let a_empty : row_a ≡ [] = was.a_left.bands in
-    let b_empty : row_b ≡ [] = was.b_left.bands in
-    let outside : (x : ℕ) → is_inside false (last_edges merged) x ≡ false = λ x. was.row_is.reads x ∙ rw (a_empty, b_empty) none in
-    let empty : last_edges merged ≡ [] = row_unique 1000000 0 false (last_edges merged) [] was.row_is.row refl outside in
-    rw (← append-nil merged) (was.so_far [] (record { bands = empty; reads = λ x y. was.row_is.reads x }))
+-- where only the first set has bands left, all or none of them are kept
+left_rest : (keeps : Bool → Bool → Bool) (t : Bool) (from : ℕ) (row_a : List ℕ) (a : List Band) (last : List ℕ) → keeps false false ≡ false → keeps true false ≡ t → IsLeft from row_a a → IsRowMerge keeps 0 false row_a false [] false last → IsBandMerge keeps from row_a a [] [] last (kept_bands t a)
+left_rest keeps true from row_a a last none all left merge =
+    let same : last ≡ row_a = row_unique 1000000 0 false last row_a merge.row left.row (λ x. merge.reads x ∙ as_it_is (is_inside false row_a x)) in
+    record {
+      bands = subst (λ (row : List ℕ). IsBands 1000000 from row a) (sym same) left.bands;
+      reads = λ x y. ap (λ (row : List ℕ). is_inside false (row_at row a y) x) same ∙ sym (as_it_is (is_inside false (row_at row_a a y) x));
+    }
+  where
+    as_it_is : (p : Bool) → keeps p false ≡ p
+    as_it_is true = all
+    as_it_is false = none
+left_rest keeps false from row_a a last none all left merge =
+    let empty : last ≡ [] = row_unique 1000000 0 false last [] merge.row refl (λ x. merge.reads x ∙ outside (is_inside false row_a x)) in
+    record {
+      bands = empty;
+      reads = λ x y. merge.reads x ∙ outside (is_inside false row_a x) ∙ sym (outside (is_inside false (row_at row_a a y) x));
+    }
+  where
+    outside : (p : Bool) → keeps p false ≡ false
+    outside true = all
+    outside false = none
 
-pub IsBandMerging-end : (keeps : Bool → Bool → Bool) (first_a first_b : List Band) (row_a : List ℕ) (a : List Band) (row_b : List ℕ) (b : List Band) (merged : List Band) → keeps false false ≡ false → (a ≡ []) × (b ≡ []) → IsBandMerging keeps first_a first_b row_a a row_b b merged → IsBandMerge keeps 0 [] first_a [] first_b [] merged
-IsBandMerging-end keeps first_a first_b row_a a row_b b merged none ended was =
-    at_end keeps first_a first_b row_a row_b merged none
-    (subst (λ (k : List Band). IsBandMerging keeps first_a first_b row_a [] row_b k merged) ended.1
-    (subst (λ (k : List Band). IsBandMerging keeps first_a first_b row_a k row_b b merged) ended.0 was))
+right_rest : (keeps : Bool → Bool → Bool) (t : Bool) (from : ℕ) (row_b : List ℕ) (b : List Band) (last : List ℕ) → keeps false false ≡ false → keeps false true ≡ t → IsLeft from row_b b → IsRowMerge keeps 0 false [] false row_b false last → IsBandMerge keeps from [] [] row_b b last (kept_bands t b)
+right_rest keeps t from row_b b last none all left merge =
+    let turned = left_rest (λ p q. keeps q p) t from row_b b last none all left (record { row = merge.row; reads = λ x. merge.reads x }) in
+    record { bands = turned.bands; reads = λ x y. turned.reads x y }
+
+kept_none : (t : Bool) → kept_bands t [] ≡ []
+kept_none true = refl
+kept_none false = refl
+
+-- what is left where one set has no bands any more
+bands_rest : (keeps : Bool → Bool → Bool) (from : ℕ) (row_a : List ℕ) (a : List Band) (row_b : List ℕ) (b : List Band) (last : List ℕ) → keeps false false ≡ false → (a ≡ []) ⊎ (b ≡ []) → IsLeft from row_a a → IsLeft from row_b b → IsRowMerge keeps 0 false row_a false row_b false last → IsBandMerge keeps from row_a a row_b b last (kept_bands (keeps true false) a ++ kept_bands (keeps false true) b)
+bands_rest keeps from row_a a row_b b last none (inl ended) left_a left_b merge =
+    let empty : row_a ≡ [] = subst (λ (bands : List Band). IsBands 1000000 from row_a bands) ended left_a.bands in
+    rw (ended, empty, kept_none (keeps true false))
+    (right_rest keeps (keeps false true) from row_b b last none refl left_b (subst (λ (row : List ℕ). IsRowMerge keeps 0 false row false row_b false last) empty merge))
+bands_rest keeps from row_a a row_b b last none (inr ended) left_a left_b merge =
+    let empty : row_b ≡ [] = subst (λ (bands : List Band). IsBands 1000000 from row_b bands) ended left_b.bands in
+    rw (ended, empty, kept_none (keeps false true), append-nil (kept_bands (keeps true false) a))
+    (left_rest keeps (keeps true false) from row_a a last none refl left_a (subst (λ (row : List ℕ). IsRowMerge keeps 0 false row_a false row false last) empty merge))
+
+pub IsBandMerging-end : (keeps : Bool → Bool → Bool) (first_a first_b : List Band) (row_a : List ℕ) (a : List Band) (row_b : List ℕ) (b : List Band) (t t' : Bool) (merged merged' merged'' : List Band) → keeps false false ≡ false → t ≡ keeps true false → t' ≡ keeps false true → (a ≡ []) ⊎ (b ≡ []) → merged' ≡ merged ++ kept_bands t a → merged'' ≡ merged' ++ kept_bands t' b → IsBandMerging keeps first_a first_b row_a a row_b b merged → IsBandMerge keeps 0 [] first_a [] first_b [] merged''
+IsBandMerging-end keeps first_a first_b row_a a row_b b t t' merged merged' merged'' none t_is t'_is ended first second was =
+    let ka : List Band = kept_bands (keeps true false) a in
+    let kb : List Band = kept_bands (keeps false true) b in
+    let whole : merged'' ≡ merged ++ (ka ++ kb) = second ∙ ap₂ (λ (l : List Band) (u : Bool). l ++ kept_bands u b) (first ∙ ap (λ (u : Bool). merged ++ kept_bands u a) t_is) t'_is ∙ append_assoc merged ka kb in
+    subst (λ (bands : List Band). IsBandMerge keeps 0 [] first_a [] first_b [] bands) (sym whole)
+    (was.so_far (ka ++ kb) (bands_rest keeps was.from row_a a row_b b (last_edges merged) none ended was.a_left was.b_left was.row_is))
 
 pub keeps-none : (how : Combine) → keeps how false false ≡ false
 keeps-none Union = refl

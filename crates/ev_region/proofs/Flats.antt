@@ -1,13 +1,13 @@
 -- Bands in two lists: which edges belong to which, and what adding one band changes.
-use Rattle.std.proofs.Common.{◌≡◌, ℕ, zero, suc, ◌+◌, ◌-◌, ◌≤◌, ◌<◌, List, [], ◌∷◌, ◌++◌, take, drop, get_or, length, leb, Bool, true, false, refl, sym, ap, ap₂, ◌∙◌, arith, slice_range, inl, inr}
-use Rattle.std.proofs.lemmas.List.{take-take, drop-take, length-take, length-drop, take_all, take_rest}
-use Rattle.std.proofs.Math.Seq.{drop-append_seam}
+use Rattle.std.proofs.Common.{◌≡◌, ℕ, zero, suc, ◌+◌, ◌-◌, ◌≤◌, ◌<◌, List, [], ◌∷◌, ◌++◌, ◌^◌, map, All, length-append, take, drop, get_or, length, leb, Bool, true, false, refl, sym, ap, ap₂, ◌∙◌, arith, slice_range, inl, inr}
+use Rattle.std.proofs.lemmas.List.{take-take, drop-take, length-take, length-drop, take_all, take_rest, drop-drop}
+use Rattle.std.proofs.Math.Seq.{drop-append_seam, drop-append-add, take-append_seam}
 use Rattle.std.specs.List.Sorted.{IsPartitionPoint, IsNonDecreasingBy}
 use Rattle.ev_geom.specs.Bands.{Band, IsBands, row_at}
 use Rattle.ev_region.specs.declared.bands.Step.{Step}
 use Rattle.ev_region.specs.RowMerge.{AddsRowMerge, IsKept}
 use Rattle.ev_region.specs.BandMerge.{last_edges, PushesRow}
-use Rattle.ev_region.specs.Flat.{bands_of, start_at, IsFlat}
+use Rattle.ev_region.specs.Flat.{bands_of, start_at, IsFlat, moved, CanMove}
 
 -- the edges of a band stand between two of the ends
 pub range_of : (size start : ℕ) (steps : List Step) (k : ℕ) → IsFlat size start steps → k < length steps → (start_at start steps k ≤ start_at start steps (suc k)) × (start_at start steps (suc k) ≤ size)
@@ -173,6 +173,12 @@ same_after end steps edges cut after flat end_is cut_is kept =
 row_behind : (keeps : Bool → Bool → Bool) (a b : List ℕ) (end : ℕ) (cut after : List ℕ) → length cut ≡ end → (adds : AddsRowMerge keeps a b cut after) → drop end after ≡ adds.row
 row_behind keeps a b end cut after len adds = ap (λ n. drop n after) (sym len) ∙ ap (drop (length cut)) adds.added ∙ drop-append_seam cut adds.row
 
+IsKept-append : (cut more after : List ℕ) → after ≡ cut ++ more → IsKept cut after
+IsKept-append cut more after after_is = record {
+  front = ap (take (length cut)) after_is ∙ take-append_seam cut more;
+  longer = omega (arith, ap length after_is, length-append cut more);
+}
+
 -- the row has the edges of the last band
 pub pushed_none : (keeps : Bool → Bool → Bool) (y : ℕ) (a b : List ℕ) (end start : ℕ) (steps : List Step) (edges cut after : List ℕ) (old new : List Band) → IsFlat (length edges) 0 steps → end ≡ start_at 0 steps (length steps) → cut ≡ take end edges → IsKept cut after → AddsRowMerge keeps a b cut after
     → start ≤ end → slice_range edges start end ≡ last_edges (bands_of 0 steps edges) → slice_range after end (length after) ≡ slice_range after start end → bands_of 0 steps edges ≡ old → new ≡ bands_of 0 steps after → PushesRow keeps y a b old new
@@ -212,3 +218,88 @@ pub flat_pushed : (end : ℕ) (steps : List Step) (edges cut after : List ℕ) (
 flat_pushed end steps edges cut after step flat end_is cut_is kept all =
     let len = cut_length 0 end steps edges cut flat end_is cut_is in
     IsFlat-push (length after) 0 steps step (length steps) refl (flat_after end steps edges cut after flat end_is cut_is kept) (omega (arith, kept.longer)) (omega arith)
+
+-- edges and steps of other bands that were put behind
+bands_of-append : (start : ℕ) (steps others : List Step) (edges : List ℕ) (n : ℕ) → n ≡ length steps → bands_of start (steps ++ others) edges ≡ bands_of start steps edges ++ bands_of (start_at start steps n) others edges
+bands_of-append start [] others edges zero count = refl
+bands_of-append start [] others edges (suc n) count = absurd (omega arith)
+bands_of-append start (step ∷ steps) others edges zero count = absurd (omega arith)
+bands_of-append start (step ∷ steps) others edges (suc n) count =
+    ap (λ bands. record { top = step.top; edges = slice_range edges start step.end } ∷ bands) (bands_of-append step.end steps others edges n (omega arith))
+
+IsFlat-append : (size start : ℕ) (steps others : List Step) (n : ℕ) → n ≡ length steps → IsFlat size start steps → IsFlat size (start_at start steps n) others → IsFlat size start (steps ++ others)
+IsFlat-append size start [] others zero count flat more = more
+IsFlat-append size start [] others (suc n) count flat more = absurd (omega arith)
+IsFlat-append size start (step ∷ steps) others zero count flat more = absurd (omega arith)
+IsFlat-append size start (step ∷ steps) others (suc n) count flat more = (flat.0, flat.1, IsFlat-append size step.end steps others n (omega arith) flat.2 more)
+
+slice_moved : (from to start end : ℕ) (cut edges : List ℕ) → length cut ≡ to → from ≤ start → start ≤ end → slice_range (cut ++ drop from edges) (start - from + to) (end - from + to) ≡ slice_range edges start end
+slice_moved from to start end cut edges len low high =
+    let size : (end - from + to) - (start - from + to) ≡ end - start = omega arith in
+    let place : start - from + to ≡ length cut + (start - from) = omega arith in
+    let whole : from + (start - from) ≡ start = omega arith in
+    ap₂ (λ n m. take n (drop m (cut ++ drop from edges))) size place
+    ∙ ap (take (end - start)) (drop-append-add cut (drop from edges) (start - from) ∙ drop-drop (start - from) from edges ∙ ap (λ n. drop n edges) whole)
+
+bands_of-moved : (from to start : ℕ) (steps : List Step) (cut edges : List ℕ) → length cut ≡ to → from ≤ start → IsFlat (length edges) start steps → bands_of (start - from + to) (map (moved from to) steps) (cut ++ drop from edges) ≡ bands_of start steps edges
+bands_of-moved from to start [] cut edges len low flat = refl
+bands_of-moved from to start (step ∷ steps) cut edges len low flat =
+    ap₂ (λ row bands. record { top = step.top; edges = row } ∷ bands)
+    (slice_moved from to start step.end cut edges len low flat.0)
+    (bands_of-moved from to step.end steps cut edges len (omega (arith, flat.0)) flat.2)
+
+IsFlat-moved : (size from to start : ℕ) (steps : List Step) → from ≤ start → IsFlat size start steps → IsFlat (to + (size - from)) (start - from + to) (map (moved from to) steps)
+IsFlat-moved size from to start [] low flat = omega arith
+IsFlat-moved size from to start (step ∷ steps) low flat = (omega (arith, flat.0), omega (arith, flat.1), IsFlat-moved size from to step.end steps (omega (arith, flat.0)) flat.2)
+
+-- an end stands behind the first edge and within the edges
+end_range : (size start : ℕ) (steps : List Step) (k : ℕ) (d : Step) → IsFlat size start steps → k < length steps → (start ≤ (get_or steps k d).end) × ((get_or steps k d).end ≤ size)
+end_range size start [] k d flat low = absurd (omega arith)
+end_range size start (step ∷ []) zero d flat low = (flat.0, flat.1)
+end_range size start (step ∷ (next ∷ steps)) zero d flat low = (flat.0, flat.1)
+end_range size start (step ∷ steps) (suc k) d flat low =
+    let rest = end_range size step.end steps k d flat.2 (omega arith) in (omega (arith, flat.0, rest.0), rest.1)
+
+pub IsFlat-start : (size start : ℕ) (steps : List Step) → IsFlat size start steps → start ≤ size
+IsFlat-start size start [] flat = flat
+IsFlat-start size start (step ∷ steps) flat = omega (arith, flat.0, flat.1)
+
+pub all_move : (size from to : ℕ) (steps : List Step) → to + (size - from) < 2 ^ 64 → IsFlat size from steps → All (CanMove from to) steps
+all_move size from to steps fits flat = λ k d low.
+    let range = end_range size from steps k d flat low in record { after = range.0; fits = omega (arith, range.0, range.1, fits) }
+
+-- where the first of them are moved, the others are as they were
+pub untouched : (f : Step → Step) (steps : List Step) (i : ℕ) (d : Step) → i < length steps → get_or (map f (take i steps) ++ drop i steps) i d ≡ get_or steps i d
+untouched f [] i d low = absurd (omega arith)
+untouched f (step ∷ steps) zero d low = refl
+untouched f (step ∷ steps) (suc i) d low = untouched f steps i d (omega arith)
+
+pub cut_flat : (end : ℕ) (steps : List Step) (edges cut after : List ℕ) → IsFlat (length edges) 0 steps → end ≡ start_at 0 steps (length steps) → cut ≡ take end edges → length cut ≤ length after → IsFlat (length after) 0 steps
+cut_flat end steps edges cut after flat end_is cut_is more =
+    let tight = IsFlat-tight (length edges) 0 steps (length steps) refl flat in
+    let len = cut_length 0 end steps edges cut flat end_is cut_is in
+    IsFlat-wider (start_at 0 steps (length steps)) (length after) 0 steps (omega (arith, more)) tight.0
+
+-- bands that were put behind others
+pub joined_size : (end : ℕ) (steps : List Step) (edges cut : List ℕ) (start : ℕ) (other_edges after : List ℕ) → IsFlat (length edges) 0 steps → end ≡ start_at 0 steps (length steps) → cut ≡ take end edges → after ≡ cut ++ drop start other_edges → length after ≡ end + (length other_edges - start)
+joined_size end steps edges cut start other_edges after flat end_is cut_is after_is =
+    let len = cut_length 0 end steps edges cut flat end_is cut_is in
+    omega (arith, ap length after_is, length-append cut (drop start other_edges), length-drop start other_edges)
+
+pub joined_flat : (end : ℕ) (steps : List Step) (edges cut : List ℕ) (start : ℕ) (others : List Step) (other_edges after : List ℕ) → IsFlat (length edges) 0 steps → end ≡ start_at 0 steps (length steps) → cut ≡ take end edges → IsFlat (length other_edges) start others → after ≡ cut ++ drop start other_edges → IsFlat (length after) 0 (steps ++ map (moved start end) others)
+joined_flat end steps edges cut start others other_edges after flat end_is cut_is other_flat after_is =
+    let len = cut_length 0 end steps edges cut flat end_is cut_is in
+    let size : length after ≡ end + (length other_edges - start) = omega (arith, ap length after_is, length-append cut (drop start other_edges), length-drop start other_edges) in
+    let place : start - start + end ≡ start_at 0 steps (length steps) = omega arith in
+    let kept = IsKept-append cut (drop start other_edges) after after_is in
+    IsFlat-append (length after) 0 steps (map (moved start end) others) (length steps) refl (flat_after end steps edges cut after flat end_is cut_is kept)
+    (rw (size, ← place) (IsFlat-moved (length other_edges) start end start others (omega arith) other_flat))
+
+pub joined_bands : (end : ℕ) (steps : List Step) (edges cut : List ℕ) (start : ℕ) (others : List Step) (other_edges after : List ℕ) → IsFlat (length edges) 0 steps → end ≡ start_at 0 steps (length steps) → cut ≡ take end edges → IsFlat (length other_edges) start others → after ≡ cut ++ drop start other_edges → bands_of 0 (steps ++ map (moved start end) others) after ≡ bands_of 0 steps edges ++ bands_of start others other_edges
+joined_bands end steps edges cut start others other_edges after flat end_is cut_is other_flat after_is =
+    let len = cut_length 0 end steps edges cut flat end_is cut_is in
+    let place : start_at 0 steps (length steps) ≡ start - start + end = omega arith in
+    let kept = IsKept-append cut (drop start other_edges) after after_is in
+    bands_of-append 0 steps (map (moved start end) others) after (length steps) refl
+    ∙ ap₂ (λ a b. a ++ b) (same_after end steps edges cut after flat end_is cut_is kept)
+    (ap₂ (λ n es. bands_of n (map (moved start end) others) es) place after_is ∙ bands_of-moved start end start others cut other_edges len (omega arith) other_flat)

@@ -1,12 +1,12 @@
 -- One step of the pass over the edges of two rows.
-use Rattle.std.proofs.Common.{◌≡◌, ℕ, ◌+◌, ◌≤◌, ◌<◌, Bool, true, false, not, List, [], ◌∷◌, ◌++◌, refl, sym, ◌∙◌, arith, subst, ⊎_elim, ◌⊎◌, inl, inr, zero, suc, append_assoc, append-nil, ap, ap₂, length, take, length-append}
+use Rattle.std.proofs.Common.{◌≡◌, ℕ, ◌+◌, ◌%◌, eqb, ◌≤◌, ◌<◌, Bool, true, false, not, List, [], ◌∷◌, ◌++◌, refl, sym, ◌∙◌, arith, subst, ⊎_elim, ◌⊎◌, inl, inr, zero, suc, append_assoc, append-nil, ap, length, take, length-append}
 use Rattle.std.proofs.Math.Seq.{take-append_seam}
 use Rattle.std.proofs.lemmas.Bool.{le-leb, lt-leb, cases_lt, cases_eq, eq-eqb, ne_eqb}
 use Rattle.std.proofs.lemmas.Bool.Decides.{nat_tests}
 use mathlib.Core.Bool.{beq}
-use Rattle.ev_geom.specs.Bands.{IsRow}
+use Rattle.ev_geom.specs.Bands.{IsRow, is_inside}
 use Rattle.ev_geom.proofs.Rows.{is_inside-before, IsRow-sooner}
-use Rattle.ev_region.specs.RowMerge.{StartsFrom, edges_at, IsNext, Passes, IsRowMerge, AddsRowMerge, IsKept}
+use Rattle.ev_region.specs.RowMerge.{begins_inside, StartsFrom, edges_at, IsNext, Passes, IsRowMerge, AddsRowMerge, IsKept, kept_edges}
 
 -- a row with no edge before x
 pub IsRow-from : (limit from x : ℕ) (inside : Bool) (edges : List ℕ) → IsRow limit from inside edges → StartsFrom x edges → IsRow limit x inside edges
@@ -53,6 +53,29 @@ Passes-first x inside edges row = record {
   after = λ k high. rw (le-leb x k high) refl;
   count = rw (eq-eqb x x refl) (omega arith);
 }
+
+-- a row that ends outside has an odd number of edges where it begins inside
+pub row_begins : (limit from : ℕ) (inside : Bool) (edges : List ℕ) → IsRow limit from inside edges → begins_inside edges ≡ inside
+row_begins limit from inside [] row = sym row
+row_begins limit from inside (edge ∷ edges) row =
+    one_more (length edges) ∙ ap not (row_begins limit (edge + 1) (not inside) edges row.2) ∙ twice inside
+  where
+    one_more : (n : ℕ) → eqb (suc n % 2) 1 ≡ not (eqb (n % 2) 1)
+    one_more zero = refl
+    one_more (suc zero) = refl
+    one_more (suc (suc n)) =
+        let here : suc (suc n) % 2 ≡ n % 2 = omega arith in
+        let next : suc (suc (suc n)) % 2 ≡ suc n % 2 = omega arith in
+        rw (here, next) (one_more n)
+
+    twice : (b : Bool) → not (not b) ≡ b
+    twice true = refl
+    twice false = refl
+
+pub Passes-turn : (x : ℕ) (edges : List ℕ) → IsRow 1000000 x (begins_inside (x ∷ edges)) (x ∷ edges) → Passes x (begins_inside (x ∷ edges)) (x ∷ edges) (begins_inside edges) edges
+Passes-turn x edges row =
+    subst (λ (side : Bool). Passes x (begins_inside (x ∷ edges)) (x ∷ edges) side edges) (sym (row_begins 1000000 (x + 1) (not (begins_inside (x ∷ edges))) edges row.2))
+    (Passes-first x (begins_inside (x ∷ edges)) edges row)
 
 -- what the test of two sides says
 pub sides_differ : (a b : Bool) → not (beq a b) ≡ true → a ≡ not b
@@ -122,11 +145,44 @@ IsMerging-stay keeps first_a first_b in_a a in_b b inside merged x in_a' a' in_b
           (subst (λ (side : Bool). IsRowMerge keeps (x + 1) in_a' a' in_b' b' side rest) (sym stays) merges));
     }
 
--- after the last edge
-at_end : (keeps : Bool → Bool → Bool) (first_a first_b : List ℕ) (in_a in_b inside : Bool) (row : List ℕ) → keeps false false ≡ false → IsMerging keeps first_a first_b in_a [] in_b [] inside row → IsRowMerge keeps 0 false first_a false first_b false row
-at_end keeps first_a first_b in_a in_b inside row none was =
-    let outside : inside ≡ false = was.inside_is ∙ ap₂ keeps was.a_row was.b_row ∙ none in
-    subst (λ (edges : List ℕ). IsRowMerge keeps 0 false first_a false first_b false edges) (append-nil row) (was.so_far [] (record { row = outside; reads = λ x. was.inside_is }))
+-- where only the first row has edges left, all or none of them are kept
+left_rest : (keeps : Bool → Bool → Bool) (t : Bool) (from : ℕ) (in_a : Bool) (a : List ℕ) (inside : Bool) → keeps false false ≡ false → keeps true false ≡ t → IsRow 1000000 from in_a a → inside ≡ keeps in_a false → IsRowMerge keeps from in_a a false [] inside (kept_edges t a)
+left_rest keeps true from in_a a inside none all row inside_is =
+    let same : inside ≡ in_a = inside_is ∙ as_it_is in_a in
+    record {
+      row = subst (λ (side : Bool). IsRow 1000000 from side a) (sym same) row;
+      reads = λ x. ap (λ side. is_inside side a x) same ∙ sym (as_it_is (is_inside in_a a x));
+    }
+  where
+    as_it_is : (p : Bool) → keeps p false ≡ p
+    as_it_is true = all
+    as_it_is false = none
+left_rest keeps false from in_a a inside none all row inside_is =
+    record { row = inside_is ∙ outside in_a; reads = λ x. inside_is ∙ outside in_a ∙ sym (outside (is_inside in_a a x)) }
+  where
+    outside : (p : Bool) → keeps p false ≡ false
+    outside true = all
+    outside false = none
+
+right_rest : (keeps : Bool → Bool → Bool) (t : Bool) (from : ℕ) (in_b : Bool) (b : List ℕ) (inside : Bool) → keeps false false ≡ false → keeps false true ≡ t → IsRow 1000000 from in_b b → inside ≡ keeps false in_b → IsRowMerge keeps from false [] in_b b inside (kept_edges t b)
+right_rest keeps t from in_b b inside none all row inside_is =
+    let turned = left_rest (λ p q. keeps q p) t from in_b b inside none all row inside_is in
+    record { row = turned.row; reads = λ x. turned.reads x }
+
+kept_none : (t : Bool) → kept_edges t [] ≡ []
+kept_none true = refl
+kept_none false = refl
+
+-- what is left where one row has ended
+row_rest : (keeps : Bool → Bool → Bool) (from : ℕ) (in_a : Bool) (a : List ℕ) (in_b : Bool) (b : List ℕ) (inside : Bool) → keeps false false ≡ false → (a ≡ []) ⊎ (b ≡ []) → IsRow 1000000 from in_a a → IsRow 1000000 from in_b b → inside ≡ keeps in_a in_b → IsRowMerge keeps from in_a a in_b b inside (kept_edges (keeps true false) a ++ kept_edges (keeps false true) b)
+row_rest keeps from in_a a in_b b inside none (inl ended) row_a row_b inside_is =
+    let outside : in_a ≡ false = subst (λ (edges : List ℕ). IsRow 1000000 from in_a edges) ended row_a in
+    let side : inside ≡ keeps false in_b = inside_is ∙ ap (λ p. keeps p in_b) outside in
+    rw (ended, outside, kept_none (keeps true false)) (right_rest keeps (keeps false true) from in_b b inside none refl row_b side)
+row_rest keeps from in_a a in_b b inside none (inr ended) row_a row_b inside_is =
+    let outside : in_b ≡ false = subst (λ (edges : List ℕ). IsRow 1000000 from in_b edges) ended row_b in
+    let side : inside ≡ keeps in_a false = inside_is ∙ ap (keeps in_a) outside in
+    rw (ended, outside, kept_none (keeps false true), append-nil (kept_edges (keeps true false) a)) (left_rest keeps (keeps true false) from in_a a inside none refl row_a side)
 
 -- the same pass, where the edges are added to a list
 pub record IsAdding (keeps : Bool → Bool → Bool) (old : List ℕ) (first_a first_b : List ℕ) (in_a : Bool) (a : List ℕ) (in_b : Bool) (b : List ℕ) (inside : Bool) (list : List ℕ) : Type 0 where
@@ -140,6 +196,10 @@ IsAdding-begin keeps old a b none p q = record {
   added = sym (append-nil old);
   merging = record { from = 0; a_row = p; b_row = q; inside_is = sym none; so_far = λ rest merges. merges };
 }
+
+pub IsAdding-rows : (keeps : Bool → Bool → Bool) (old a b : List ℕ) → keeps false false ≡ false → IsRow 1000000 0 false a → IsRow 1000000 0 false b → IsAdding keeps old a b (begins_inside a) a (begins_inside b) b false old
+IsAdding-rows keeps old a b none p q =
+    rw (row_begins 1000000 0 false a p, row_begins 1000000 0 false b q) (IsAdding-begin keeps old a b none p q)
 
 pub IsAdding-turn : (keeps : Bool → Bool → Bool) (old first_a first_b : List ℕ) (in_a : Bool) (a : List ℕ) (in_b : Bool) (b : List ℕ) (inside : Bool) (list : List ℕ) (x : ℕ) (in_a' : Bool) (a' : List ℕ) (in_b' : Bool) (b' : List ℕ) (kept : Bool) → IsAdding keeps old first_a first_b in_a a in_b b inside list → IsNext x a b → Passes x in_a a in_a' a' → Passes x in_b b in_b' b' → kept ≡ keeps in_a' in_b' → kept ≡ not inside → IsAdding keeps old first_a first_b in_a' a' in_b' b' kept (list ++ x ∷ [])
 IsAdding-turn keeps old first_a first_b in_a a in_b b inside list x in_a' a' in_b' b' kept was next p q kept_is turned = record {
@@ -155,17 +215,29 @@ IsAdding-stay keeps old first_a first_b in_a a in_b b inside list x in_a' a' in_
   merging = IsMerging-stay keeps first_a first_b in_a a in_b b inside was.row x in_a' a' in_b' b' kept was.merging next p q kept_is stays;
 }
 
-pub IsAdding-end : (keeps : Bool → Bool → Bool) (old first_a first_b : List ℕ) (in_a : Bool) (a : List ℕ) (in_b : Bool) (b : List ℕ) (inside : Bool) (list : List ℕ) → keeps false false ≡ false → (a ≡ []) × (b ≡ []) → IsAdding keeps old first_a first_b in_a a in_b b inside list → AddsRowMerge keeps first_a first_b old list
-IsAdding-end keeps old first_a first_b in_a a in_b b inside list none ended was = record {
-  row = was.row;
-  merge = at_end keeps first_a first_b in_a in_b inside was.row none
-      (subst (λ (k : List ℕ). IsMerging keeps first_a first_b in_a [] in_b k inside was.row) ended.1
-      (subst (λ (k : List ℕ). IsMerging keeps first_a first_b in_a k in_b b inside was.row) ended.0 was.merging));
-  added = was.added;
+pub IsAdding-end : (keeps : Bool → Bool → Bool) (old first_a first_b : List ℕ) (in_a : Bool) (a : List ℕ) (in_b : Bool) (b : List ℕ) (inside : Bool) (list list' list'' : List ℕ) → keeps false false ≡ false → (a ≡ []) ⊎ (b ≡ []) → list' ≡ list ++ kept_edges (keeps true false) a → list'' ≡ list' ++ kept_edges (keeps false true) b → IsAdding keeps old first_a first_b in_a a in_b b inside list → AddsRowMerge keeps first_a first_b old list''
+IsAdding-end keeps old first_a first_b in_a a in_b b inside list list' list'' none ended first second was =
+    let ka : List ℕ = kept_edges (keeps true false) a in
+    let kb : List ℕ = kept_edges (keeps false true) b in
+    record {
+      row = was.row ++ (ka ++ kb);
+      merge = was.merging.so_far (ka ++ kb) (row_rest keeps was.merging.from in_a a in_b b inside none ended was.merging.a_row was.merging.b_row was.merging.inside_is);
+      added = second ∙ ap (λ (l : List ℕ). l ++ kb) first ∙ append_assoc list ka kb ∙ ap (λ (l : List ℕ). l ++ (ka ++ kb)) was.added ∙ append_assoc old was.row (ka ++ kb);
+    }
+
+-- a list to which something was added has its beginning still
+kept_of : (old row list : List ℕ) → list ≡ old ++ row → IsKept old list
+kept_of old row list added = record {
+  front = ap (take (length old)) added ∙ take-append_seam old row;
+  longer = omega (arith, ap length added, length-append old row);
 }
 
 pub IsAdding-kept : (keeps : Bool → Bool → Bool) (old first_a first_b : List ℕ) (in_a : Bool) (a : List ℕ) (in_b : Bool) (b : List ℕ) (inside : Bool) (list list' : List ℕ) → list' ≡ list → IsAdding keeps old first_a first_b in_a a in_b b inside list → IsKept old list'
-IsAdding-kept keeps old first_a first_b in_a a in_b b inside list list' same was = record {
-  front = ap (take (length old)) (same ∙ was.added) ∙ take-append_seam old was.row;
-  longer = omega (arith, ap length (same ∙ was.added), length-append old was.row);
-}
+IsAdding-kept keeps old first_a first_b in_a a in_b b inside list list' same was = kept_of old was.row list' (same ∙ was.added)
+
+pub IsAdding-longer : (keeps : Bool → Bool → Bool) (old first_a first_b : List ℕ) (in_a : Bool) (a : List ℕ) (in_b : Bool) (b : List ℕ) (inside : Bool) (list more list' list'' : List ℕ) → list' ≡ list ++ more → list'' ≡ list' → IsAdding keeps old first_a first_b in_a a in_b b inside list → IsKept old list''
+IsAdding-longer keeps old first_a first_b in_a a in_b b inside list more list' list'' added same was =
+    kept_of old (was.row ++ more) list'' (same ∙ added ∙ ap (λ (l : List ℕ). l ++ more) was.added ∙ append_assoc old was.row more)
+
+pub IsAdding-both : (keeps : Bool → Bool → Bool) (old first_a first_b : List ℕ) (list'' : List ℕ) → AddsRowMerge keeps first_a first_b old list'' → IsKept old list''
+IsAdding-both keeps old first_a first_b list'' adds = kept_of old adds.row list'' adds.added

@@ -1,5 +1,5 @@
 -- Bands whose edges stand one after the other in one list.
-use Rattle.std.specs.Prelude.{◌≡◌, ℕ, zero, suc, ◌≤◌, List, [], ◌∷◌, length, take}
+use Rattle.std.specs.Prelude.{◌≡◌, ℕ, zero, suc, ◌+◌, ◌-◌, ◌^◌, ◌≤◌, ◌<◌, List, [], ◌∷◌, length, take}
 use Rattle.std.specs.List.{slice_range}
 use Rattle.ev_geom.specs.Bands.{Band, IsBands}
 use Rattle.ev_region.specs.declared.bands.Step.{Step}
@@ -21,6 +21,15 @@ start_at start (step ∷ steps) (suc k) = start_at step.end steps k
 abbrev pub IsFlat : ℕ → ℕ → List Step → Type 0
 IsFlat size start [] = start ≤ size
 IsFlat size start (step ∷ steps) = (start ≤ step.end) × (step.end ≤ size) × IsFlat size step.end steps
+
+-- a step whose edges stood from `from` on and stand from `to` on
+abbrev pub moved : ℕ → ℕ → Step → Step
+moved from to step = record { top = step.top; end = step.end - from + to }
+
+-- its edges stood there, and the place to which they move is a number of the machine
+pub record CanMove (from to : ℕ) (step : Step) : Type 0 where
+  pub after : from ≤ step.end
+  pub fits : step.end - from + to < 2 ^ 64
 
 -- bands that can be read from row `from` down, where the rows above have the edges `row`
 pub record IsReading (from : ℕ) (row : List ℕ) (start : ℕ) (steps : List Step) (edges : List ℕ) : Type 0 where

@@ -5,6 +5,7 @@ ghost use Rattle.ev_geom.specs.Bands.{has_pixel, IsBanded, IsBandsOf, FitsRegion
 ghost use Rattle.ev_geom.specs.Snap.{IsSnapOf};
 ghost use Rattle.ev_region.specs.Combine.{keeps};
 ghost use Rattle.ev_region.specs.Combined.{Combines};
+ghost use Rattle.ev_region.specs.Count.{pixels_within};
 
 use crate::NoMemory;
 use crate::bands::Bands;
@@ -80,7 +81,8 @@ impl Region {
 
     /// How many pixels the region has.
     pub fn area(&self) -> u64
-        ensures { result ≡ sum_by size_of self.now }
+        ensures sizes { result ≡ sum_by size_of self.now }
+        ensures pixels { result ≡ pixels_within 1000000 1000000 (has_pixel self.now) }
     {
         total_area(&self.rects)
     }

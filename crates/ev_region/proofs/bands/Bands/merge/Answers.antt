@@ -1,3 +1,4 @@
+use Rattle.std.proofs.lemmas.Result.{on_ok_weaker}
 use Rattle.ev_region.specs.Combine.{keeps}
 use Rattle.ev_region.proofs.BandMerges.{IsBandMerging-pushed, IsBandMerging-end, keeps-none}
 use Rattle.ev_region.proofs.bands.Bands.merge.Goals as goal
@@ -11,4 +12,6 @@ loop-y-preserved c = (
 
 pub returns : goal.returns
 returns c =
-    IsBandMerging-end (keeps c.args.how) _ _ _ _ _ _ _ (keeps-none c.args.how) c.in_default.ensures c.loop-y.invariant.2
+    on_ok_weaker c.add_kept-2.result
+    (λ second. IsBandMerging-end (keeps c.args.how) _ _ _ _ _ _ _ _ _ _ _ (keeps-none c.args.how) c.keeps.ensures c.keeps-2.ensures c.in_default.ensures c.in_ok-add_kept.ensures second c.loop-y.invariant.2)
+    c.add_kept-2.ensures
