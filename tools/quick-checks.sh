@@ -28,6 +28,7 @@ if command -v python3 >/dev/null; then
   rm -f "$made"
   made=$(mktemp -d)
   python3 examples/panel/draw.py "$made" && diff -r "$made" examples/panel/store || complain "examples/panel/store isn't what its draw.py makes"
+  python3 tools/image.py examples/panel/panel.png "$made/panel.evi" && python3 tools/picture.py --image "$made/panel.evi" "$made/panel.png" && cmp -s "$made/panel.png" examples/panel/panel.png || complain "tools/image.py and tools/picture.py don't turn a PNG into itself"
   printf 'height 1\nglyph 32 space\n.x\n' > "$made/bad.txt"
   python3 tools/font.py "$made/bad.txt" "$made/bad.evf" 2>&1 | grep -q 'line 3:' || complain "tools/font.py doesn't name the line that is malformed"
   rm -rf "$made"

@@ -104,9 +104,10 @@ fn negative(digits: &[u8]) -> Option<i64>
     Some(-(natural(digits)? as i64))
 }
 
-// 1 to 10 digits, of which the first isn't 0 unless it is the only one.
+/// The number of 1 to 10 digits, of which the first isn't 0 unless it is the only one. None exactly where
+/// these bytes are something else (docs/SCRIPT.md, "Lines").
 #[tactic(auto, unfolding(crate::specs::Classes::natural))]
-fn natural(digits: &[u8]) -> Option<u64>
+pub fn natural(digits: &[u8]) -> Option<u64>
     ensures value { result ≡ natural digits.now }
     ensures small { IfSome result (λ n. n < 10 ^ 10) }
 {

@@ -16,6 +16,7 @@ mod tests;
 mod verb;
 mod words;
 
+pub use classes::natural;
 pub use line::{LONGEST_LINE, Line, read_line};
 pub use reply::write_reply;
 pub use script::first_line;

@@ -5,3 +5,5 @@ pub mod Counting
 pub mod Turns
 pub mod Playing
 pub mod Orders
+pub mod Loading
+pub mod Pairs

@@ -3,6 +3,7 @@ use Rattle.std.proofs.Common.{◌≡◌, ℕ, ◌+◌, List, [], ◌∷◌, ◌+
 use Rattle.std.proofs.lemmas.List.{append-nil}
 use Rattle.std.proofs.lemmas.Grind.{flat_map-append}
 use Rattle.ev_port.specs.Told.{GrowsBy, grows_on, grows_by_none}
+use Rattle.ev_port.specs.declared.file.StoredFile.{StoredFile}
 use Rattle.ev_port.specs.Causes.{RoseBy, rose_by_none, rose_by_on}
 use Rattle.ev_model.specs.Answer.{Answer}
 use Rattle.ev_model.specs.Text.{reply_text, text}
@@ -14,7 +15,7 @@ use Rattle.ev_lang.specs.Lines.{lines, line_of, first_line, after_line}
 use Rattle.ev_lang.specs.declared.line.Line.{Line}
 use Rattle.ev_lang.specs.declared.line.Line.TheVariants as line
 use Rattle.ev_script.specs.declared.session.Session.{Session}
-use Rattle.ev_script.specs.Machine.{State, Turn, Step, Plays, opening, shown, losses_of, lost_frames}
+use Rattle.ev_script.specs.Machine.{State, Turn, Step, Plays, opening, shown, losses_of, lost_frames, store_failures_of, store_failures}
 use Rattle.ev_script.specs.Outside.{Outside, Whole, Part}
 use Rattle.ev_script.specs.Session.{StandsFor, Carried, Carries}
 use Rattle.ev_script.specs.Play.{script_lines, Played, Stopped}
@@ -34,44 +35,50 @@ says_first b bs line after is behind =
     ap (map line_of) (lines_split b bs) ∙ ap₂ (λ (l : Line) (rest : List ℕ). l ∷ script_lines rest) (sym is) (sym behind)
 
 -- a line does what its value does
-by_value_step : (state : State) (n : ℕ) (said : Line) (turn : Turn) → Step state n said turn → Step state n (by_value said) turn
-by_value_step state n (line.Command (command.Edit (edit.Say name bytes))) turn step = step
-by_value_step state n (line.Command (command.Edit other)) turn step = step
-by_value_step state n (line.Command other) turn step = step
-by_value_step state n other turn step = step
+by_value_step : (files : Option (List StoredFile)) (state : State) (n : ℕ) (said : Line) (turn : Turn) → Step files state n said turn → Step files state n (by_value said) turn
+by_value_step files state n (line.Command (command.Edit (edit.Say name bytes))) turn step = step
+by_value_step files state n (line.Command (command.Edit other)) turn step = step
+by_value_step files state n (line.Command other) turn step = step
+by_value_step files state n other turn step = step
 
 -- one line more
-plays_on : (old : State) (n m : ℕ) (answered : List Line) (line : Line) (replies : List Answer) (state : State) (turn : Turn) → Plays old n answered replies state → n + length answered ≡ m → Step state m line turn → Plays old n (answered ++ line ∷ []) (replies ++ turn.replies) turn.after
-plays_on old n m [] line replies state turn plays number step =
+plays_on : (files : Option (List StoredFile)) (old : State) (n m : ℕ) (answered : List Line) (line : Line) (replies : List Answer) (state : State) (turn : Turn) → Plays files old n answered replies state → n + length answered ≡ m → Step files state m line turn → Plays files old n (answered ++ line ∷ []) (replies ++ turn.replies) turn.after
+plays_on files old n m [] line replies state turn plays number step =
     let number_is : m ≡ n = omega (arith, number) in
-    (turn, [], subst (λ (s : State). Step s n line turn) plays.1 (subst (λ k. Step state k line turn) number_is step), (refl, refl), ap (λ rs. rs ++ turn.replies) plays.0 ∙ sym (append-nil turn.replies))
-plays_on old n m (first ∷ answered) line replies state turn plays number step =
+    (turn, [], subst (λ (s : State). Step files s n line turn) plays.1 (subst (λ k. Step files state k line turn) number_is step), (refl, refl), ap (λ rs. rs ++ turn.replies) plays.0 ∙ sym (append-nil turn.replies))
+plays_on files old n m (first ∷ answered) line replies state turn plays number step =
     let rest = plays.1 in
     let number_is : n + 1 + length answered ≡ m = omega (arith, number) in
-    (plays.0, rest ++ turn.replies, plays.2, plays_on plays.0.after (n + 1) m answered line rest state turn plays.3 number_is step, ap (λ rs. rs ++ turn.replies) plays.4 ∙ append_assoc plays.0.replies rest turn.replies)
+    (plays.0, rest ++ turn.replies, plays.2, plays_on files plays.0.after (n + 1) m answered line rest state turn plays.3 number_is step, ap (λ rs. rs ++ turn.replies) plays.4 ∙ append_assoc plays.0.replies rest turn.replies)
 
 -- losses of one list of replies and then another
 losses_on : (earlier later : List Answer) → lost_frames (earlier ++ later) ≡ lost_frames earlier + lost_frames later
 losses_on [] later = omega arith
 losses_on (reply ∷ earlier) later = ap (λ n. losses_of reply + n) (losses_on earlier later) ∙ sym (add_assoc (losses_of reply) (lost_frames earlier) (lost_frames later))
 
+-- and the same of loads that failed in the store
+failures_on : (earlier later : List Answer) → store_failures (earlier ++ later) ≡ store_failures earlier + store_failures later
+failures_on [] later = omega arith
+failures_on (reply ∷ earlier) later = ap (λ n. store_failures_of reply + n) (failures_on earlier later) ∙ sym (add_assoc (store_failures_of reply) (store_failures earlier) (store_failures later))
+
 -- Where a session has come to in a script: the lines that it carried out, how the machine plays them,
 -- and what the outside shows of it.
-pub record SoFar (script : List ℕ) (before now : Outside) (session : Session) (number : ℕ) (rest : List ℕ) : Type 0 where
+pub record SoFar (files : Option (List StoredFile)) (script : List ℕ) (before now : Outside) (session : Session) (number : ℕ) (rest : List ℕ) : Type 0 where
   pub answered : List Line
   pub split : script_lines script ≡ answered ++ script_lines rest
   pub numbered : length answered + 1 ≡ number
   pub replies : List Answer
   pub state : State
-  pub plays : Plays opening 1 answered replies state
+  pub plays : Plays files opening 1 answered replies state
   pub stands : StandsFor session state
   pub log_grows : GrowsBy before.log now.log (text replies)
   pub screen_grows : GrowsBy before.frames now.frames (shown state.starts)
   pub losses : RoseBy (lost_frames replies) before.faults now.faults
+  pub failures : RoseBy (store_failures replies) before.store_faults now.store_faults
 
 -- before the first line
-pub at_start : (script : List ℕ) (before : Outside) (session : Session) → StandsFor session opening → SoFar script before before session 1 script
-at_start script before session stands = record {
+pub at_start : (files : Option (List StoredFile)) (script : List ℕ) (before : Outside) (session : Session) → StandsFor session opening → SoFar files script before before session 1 script
+at_start files script before session stands = record {
   answered = [];
   split = refl;
   numbered = refl;
@@ -82,13 +89,18 @@ at_start script before session stands = record {
   log_grows = grows_by_none before.log;
   screen_grows = grows_by_none before.frames;
   losses = rose_by_none before.faults before.faults (omega arith);
+  failures = rose_by_none before.store_faults before.store_faults (omega arith);
 }
 
+-- a store that tells the same files
+moved : {Wrote : Option (List ℕ) → Option (List ℕ) → List ℕ → Type 0} {here files : Option (List StoredFile)} {n : ℕ} {line : Line} {before after : Outside} {state : State} {new : Session} → here ≡ files → Carried Wrote here n line before after state new → Carried Wrote files n line before after state new
+moved {Wrote = Wrote} {n = n} {line = line} {before = before} {after = after} {state = state} {new = new} same carried = subst (λ fs. Carried Wrote fs n line before after state new) same carried
+
 -- after one more line
-pub one_line : (script : List ℕ) (before now after : Outside) (old new : Session) (number : ℕ) (rest : List ℕ) (line : Line) (behind : List ℕ) → 0 < length rest → by_value line ≡ line_of (first_line rest) → behind ≡ after_line rest → SoFar script before now old number rest → Carries Whole number line now after old new → SoFar script before after new (number + 1) behind
-one_line script before now after old new number [] line behind some is behind_is so_far carries = absurd (omega arith)
-one_line script before now after old new number (b ∷ bs) line behind some is behind_is so_far carries =
-    let carried = carries so_far.state so_far.stands in
+pub one_line : (files : Option (List StoredFile)) (script : List ℕ) (before now after : Outside) (old new : Session) (number : ℕ) (rest : List ℕ) (line : Line) (behind : List ℕ) → 0 < length rest → by_value line ≡ line_of (first_line rest) → behind ≡ after_line rest → SoFar files script before now old number rest → (here : Option (List StoredFile)) → here ≡ files → Carries Whole here number line now after old new → SoFar files script before after new (number + 1) behind
+one_line files script before now after old new number [] line behind some is behind_is so_far here same carries = absurd (omega arith)
+one_line files script before now after old new number (b ∷ bs) line behind some is behind_is so_far here same carries =
+    let carried = moved same (carries so_far.state so_far.stands) in
     let turn = carried.turn in
     record {
       answered = so_far.answered ++ by_value line ∷ [];
@@ -96,30 +108,32 @@ one_line script before now after old new number (b ∷ bs) line behind some is b
       numbered = ap (λ n. n + 1) (length-append so_far.answered (by_value line ∷ []) ∙ so_far.numbered);
       replies = so_far.replies ++ turn.replies;
       state = turn.after;
-      plays = plays_on opening 1 number so_far.answered (by_value line) so_far.replies so_far.state turn so_far.plays (omega (arith, so_far.numbered)) (by_value_step so_far.state number line turn carried.step);
+      plays = plays_on files opening 1 number so_far.answered (by_value line) so_far.replies so_far.state turn so_far.plays (omega (arith, so_far.numbered)) (by_value_step files so_far.state number line turn carried.step);
       stands = carried.stands;
       log_grows = subst (λ t. GrowsBy before.log after.log t) (sym (flat_map-append reply_text so_far.replies turn.replies)) (grows_on so_far.log_grows carried.log_grows);
       screen_grows = subst (λ frames. GrowsBy before.frames after.frames frames) (sym carried.shown_grows) (grows_on so_far.screen_grows carried.screen_grows);
       losses = subst (λ k. RoseBy k before.faults after.faults) (sym (losses_on so_far.replies turn.replies)) (rose_by_on (lost_frames so_far.replies) (lost_frames turn.replies) before.faults now.faults after.faults so_far.losses carried.losses);
+      failures = subst (λ k. RoseBy k before.store_faults after.store_faults) (sym (failures_on so_far.replies turn.replies)) (rose_by_on (store_failures so_far.replies) (store_failures turn.replies) before.store_faults now.store_faults after.store_faults so_far.failures carried.failures);
     }
 
 -- after the last line
-pub at_end : (script : List ℕ) (before now : Outside) (session : Session) (number : ℕ) (rest : List ℕ) → length rest ≡ 0 → SoFar script before now session number rest → Played script before now
-at_end script before now session number (b ∷ bs) none so_far = absurd (omega arith)
-at_end script before now session number [] none so_far = record {
+pub at_end : (files : Option (List StoredFile)) (script : List ℕ) (before now : Outside) (session : Session) (number : ℕ) (rest : List ℕ) → length rest ≡ 0 → SoFar files script before now session number rest → Played files script before now
+at_end files script before now session number (b ∷ bs) none so_far = absurd (omega arith)
+at_end files script before now session number [] none so_far = record {
   replies = so_far.replies;
   final = so_far.state;
-  plays = subst (λ ls. Plays opening 1 ls so_far.replies so_far.state) (sym (so_far.split ∙ append-nil so_far.answered)) so_far.plays;
+  plays = subst (λ ls. Plays files opening 1 ls so_far.replies so_far.state) (sym (so_far.split ∙ append-nil so_far.answered)) so_far.plays;
   log_grows = so_far.log_grows;
   screen_grows = so_far.screen_grows;
   losses = so_far.losses;
+  failures = so_far.failures;
 }
 
 -- where the log failed within the replies to a line
-pub stopped : (script : List ℕ) (before now after : Outside) (old new : Session) (number : ℕ) (rest : List ℕ) (line : Line) (behind : List ℕ) → 0 < length rest → by_value line ≡ line_of (first_line rest) → behind ≡ after_line rest → SoFar script before now old number rest → Carries Part number line now after old new → Stopped script before after
-stopped script before now after old new number [] line behind some is behind_is so_far carries = absurd (omega arith)
-stopped script before now after old new number (b ∷ bs) line behind some is behind_is so_far carries =
-    let carried = carries so_far.state so_far.stands in
+pub stopped : (files : Option (List StoredFile)) (script : List ℕ) (before now after : Outside) (old new : Session) (number : ℕ) (rest : List ℕ) (line : Line) (behind : List ℕ) → 0 < length rest → by_value line ≡ line_of (first_line rest) → behind ≡ after_line rest → SoFar files script before now old number rest → (here : Option (List StoredFile)) → here ≡ files → Carries Part here number line now after old new → Stopped files script before after
+stopped files script before now after old new number [] line behind some is behind_is so_far here same carries = absurd (omega arith)
+stopped files script before now after old new number (b ∷ bs) line behind some is behind_is so_far here same carries =
+    let carried = moved same (carries so_far.state so_far.stands) in
     let turn = carried.turn in
     let part = carried.log_grows in
     record {
@@ -131,11 +145,12 @@ stopped script before now after old new number (b ∷ bs) line behind some is be
       state = so_far.state;
       plays = so_far.plays;
       turn = turn;
-      step = subst (λ k. Step so_far.state k (by_value line) turn) (sym so_far.numbered) (by_value_step so_far.state number line turn carried.step);
+      step = subst (λ k. Step files so_far.state k (by_value line) turn) (sym so_far.numbered) (by_value_step files so_far.state number line turn carried.step);
       written = part.added;
       missing = part.left_out;
       cut = part.split;
       log_grows = grows_on so_far.log_grows part.grows;
       screen_grows = subst (λ frames. GrowsBy before.frames after.frames frames) (sym carried.shown_grows) (grows_on so_far.screen_grows carried.screen_grows);
       losses = subst (λ k. RoseBy k before.faults after.faults) (sym (losses_on so_far.replies turn.replies)) (rose_by_on (lost_frames so_far.replies) (lost_frames turn.replies) before.faults now.faults after.faults so_far.losses carried.losses);
+      failures = subst (λ k. RoseBy k before.store_faults after.store_faults) (sym (failures_on so_far.replies turn.replies)) (rose_by_on (store_failures so_far.replies) (store_failures turn.replies) before.store_faults now.store_faults after.store_faults so_far.failures carried.failures);
     }

@@ -1,4 +1,5 @@
 pub mod Totals
+pub mod Loads
 pub mod Machine
 pub mod Outside
 pub mod Session
@@ -6,3 +7,4 @@ pub mod Play
 pub mod Frames
 pub mod Status
 pub mod Reading
+pub mod Words

@@ -1,7 +1,6 @@
 -- How a run ends, and why.
 use Rattle.std.specs.Prelude.{◌≡◌, ◌⊎◌, ℕ, Bool, true, false, ◌&&◌, nat_lt, List, [], ◌∷◌, map, codes}
 use denote.Bor.{Bor}
-use Rattle.std.specs.Str.{bytes_eq}
 use Rattle.ev_port.specs.Told.{counted}
 use Rattle.ev_script.specs.declared.alone.Status.{Status}
 use Rattle.ev_script.specs.declared.alone.Status.TheVariants.{Ok, Usage, ReadFault, WriteFault, NoMemory, TooLong}
@@ -9,13 +8,6 @@ use Rattle.ev_script.specs.declared.alone.Status.TheVariants.{Ok, Usage, ReadFau
 -- the texts behind references
 abbrev pub texts : List (Bor (List ℕ)) → List (List ℕ)
 texts words = map (λ word. word.now) words
-
--- the words of a run that are taken: none, or the two words that ask for no worker
-abbrev pub are_accepted : List (List ℕ) → Bool
-are_accepted [] = true
-are_accepted (word ∷ []) = false
-are_accepted (word ∷ (value ∷ [])) = bytes_eq word (codes "--workers") && bytes_eq value (codes "0")
-are_accepted (word ∷ (value ∷ (more ∷ words))) = false
 
 -- whether a run ended before the first line
 abbrev pub is_before_lines : Status → Bool

@@ -4,9 +4,11 @@ ghost use Rattle.ev_port.specs.Causes.{Rose};
 ghost use Rattle.ev_script.specs.Outside.{outside};
 ghost use Rattle.ev_script.specs.Frames.{ShowsInOrder};
 ghost use Rattle.ev_script.specs.Play.{Played, Stopped, OfScript};
-ghost use Rattle.ev_script.specs.Status.{are_accepted, is_before_lines, is_too_long, is_usage, Takes, IsFine, texts};
+ghost use Rattle.ev_script.specs.Words.{are_pairs};
+ghost use Rattle.ev_script.specs.Status.{is_before_lines, is_too_long, is_usage, Takes, IsFine, texts};
 
 use crate::source::{ReadError, read_script};
+use crate::words::are_pairs;
 use crate::{Session, play};
 use ev_port::{Screen, Sink, Source, Store};
 use std::alloc::Global;
@@ -29,8 +31,8 @@ pub enum Status {
 }
 
 /// Reads a script from the source to its end, carries out its lines one after another, writes its log
-/// to the sink and shows its frames on the screen (docs/SCRIPT.md, docs/CANVAS.md). The store isn't
-/// used yet. `words` are those of the command line.
+/// to the sink and shows its frames on the screen; images and fonts come from the store (docs/SCRIPT.md,
+/// docs/CANVAS.md). `words` are those of the command line, of which none has an effect here yet.
 pub fn run_alone<S: Source, K: Sink, T: Store, P: Screen>(
     alloc: Global,
     words: &[&str],
@@ -39,48 +41,37 @@ pub fn run_alone<S: Source, K: Sink, T: Store, P: Screen>(
     store: &mut T,
     screen: &mut P,
 ) -> Status
-    ensures played { result ≡ Status.Ok → OfScript Played (S.left source.old) (S.left source.new)
-        (outside (K.written sink.old) (P.shown screen.old) (P.faults screen.old))
-        (outside (K.written sink.new) (P.shown screen.new) (P.faults screen.new)) }
-    ensures stopped { result ≡ Status.WriteFault → OfScript Stopped (S.left source.old) (S.left source.new)
-        (outside (K.written sink.old) (P.shown screen.old) (P.faults screen.old))
-        (outside (K.written sink.new) (P.shown screen.new) (P.faults screen.new)) }
+    ensures played { result ≡ Status.Ok → OfScript (Played (T.files store.old)) (S.left source.old) (S.left source.new)
+        (outside (K.written sink.old) (P.shown screen.old) (P.faults screen.old) (T.faults store.old))
+        (outside (K.written sink.new) (P.shown screen.new) (P.faults screen.new) (T.faults store.new)) }
+    ensures stopped { result ≡ Status.WriteFault → OfScript (Stopped (T.files store.old)) (S.left source.old) (S.left source.new)
+        (outside (K.written sink.old) (P.shown screen.old) (P.faults screen.old) (T.faults store.old))
+        (outside (K.written sink.new) (P.shown screen.new) (P.faults screen.new) (T.faults store.new)) }
     ensures in_order { ShowsInOrder (P.shown screen.old) (P.shown screen.new) }
-    ensures usage { is_usage result ≡ not (are_accepted (texts words.now)) }
+    ensures usage { is_usage result ≡ not (are_pairs (texts words.now)) }
     ensures read_fault { result ≡ Status.ReadFault → Rose (S.faults source.old) (S.faults source.new) }
     ensures write_fault { result ≡ Status.WriteFault → Rose (K.faults sink.old) (K.faults sink.new) }
     ensures too_long { Takes (S.taken source.old) (S.taken source.new) (is_too_long result) }
     ensures unread { result ≡ Status.Usage → source.new ≡ source.old }
     ensures unwritten { is_before_lines result ≡ true → sink.new ≡ sink.old }
     ensures unshown { is_before_lines result ≡ true → screen.new ≡ screen.old }
-    ensures unfetched { store.new ≡ store.old }
-    ensures complete { are_accepted (texts words.now) ≡ true → ¬ Rose (S.faults source.old) (S.faults source.new)
+    ensures unfetched { is_before_lines result ≡ true → store.new ≡ store.old }
+    ensures complete { are_pairs (texts words.now) ≡ true → ¬ Rose (S.faults source.old) (S.faults source.new)
         → ¬ Rose (K.faults sink.old) (K.faults sink.new) → is_too_long result ≡ false → IsFine result }
 {
-    if !are_accepted(words) {
+    if !are_pairs(words) {
         return Status::Usage;
     }
     let Ok(mut session) = Session::new(alloc) else {
         return Status::NoMemory;
     };
     match read_script(alloc, source) {
-        Ok(script) => match play(alloc, &mut session, &script, sink, screen) {
+        Ok(script) => match play(alloc, &mut session, &script, sink, store, screen) {
             Ok(()) => Status::Ok,
             Err(_) => Status::WriteFault,
         },
         Err(ReadError::Failed) => Status::ReadFault,
         Err(ReadError::TooLong) => Status::TooLong,
         Err(ReadError::NoMemory) => Status::NoMemory,
-    }
-}
-
-// No words, or the two words that ask for no worker.
-fn are_accepted(words: &[&str]) -> bool
-    ensures { result ≡ are_accepted (texts words.now) }
-{
-    match words {
-        [] => true,
-        [word, value] => *word == "--workers" && *value == "0",
-        _ => false,
     }
 }

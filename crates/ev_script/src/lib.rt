@@ -2,17 +2,19 @@
 #![tactic(auto)]
 
 mod alone;
-mod built;
+mod load;
 mod picture;
 mod reply;
 mod script;
 mod session;
 mod source;
 mod totals;
+mod words;
 
 pub use alone::{Status, run_alone};
 pub use script::{differences_are_reported, numbers_rise, play};
 pub use session::Session;
+pub use words::{BadWords, Folders, Options, read_folders, read_words};
 
 #[cfg(test)]
 mod tests;

@@ -1,5 +1,5 @@
 // Pictures of a scene, and what the log tells of them.
-ghost use Rattle.std.specs.Prelude.{◌≡◌, OnOk, OnErr, IfOk, map};
+ghost use Rattle.std.specs.Prelude.{◌≡◌, OnOk, OnErr, IfOk, map, Some, length};
 ghost use Rattle.std.specs.List.{range_with_len};
 ghost use Rattle.ev_argb.specs.Grid.{IsWhole, row_of};
 ghost use Rattle.ev_port.specs.Told.{GrowsBy, GrowsPart};
@@ -34,21 +34,34 @@ pub fn redrawn(alloc: Global, scene: &SceneBox) -> Result<Picture, NoMemory>
 pub fn write_rows<K: Sink>(sink: &mut K, picture: &Picture) -> Result<(), Failed>
     requires { IsWhole picture.now }
     ensures ok { OnOk result (GrowsBy (K.written sink.old) (K.written sink.new)
-        (text (map (λ y. DumpRow (row_of picture.now y)) (range_with_len 0 picture.now.h)))) }
+        (text (map (λ y. DumpRow (map Some (row_of picture.now y))) (range_with_len 0 picture.now.h)))) }
     ensures err { OnErr result (GrowsPart (K.written sink.old) (K.written sink.new)
-        (text (map (λ y. DumpRow (row_of picture.now y)) (range_with_len 0 picture.now.h)))) }
+        (text (map (λ y. DumpRow (map Some (row_of picture.now y))) (range_with_len 0 picture.now.h)))) }
     ensures cause { HasCause (K.faults sink.old) (K.faults sink.new) result }
 {
     let mut row = [Pixel::CLEAR; MAX_SIDE as usize];
     let pixels = &mut row[..picture.width() as usize];
+    let mut shown = [None; MAX_SIDE as usize];
+    let places = &mut shown[..picture.width() as usize];
     for y in 0..picture.height() {
         picture.row(y, pixels);
-        write_row(sink, pixels)?;
+        show_all(pixels, places);
+        write_row(sink, places)?;
     }
     Ok(())
 }
 
-fn write_row<K: Sink>(sink: &mut K, pixels: &[Pixel]) -> Result<(), Failed>
+// The places of a row none of whose pixels was hidden.
+fn show_all(pixels: &[Pixel], places: &mut [Option<Pixel>])
+    requires { length places.old ≡ length pixels.now }
+    ensures { places.new ≡ map Some pixels.now }
+{
+    for x in 0..pixels.len() {
+        places[x] = Some(pixels[x]);
+    }
+}
+
+fn write_row<K: Sink>(sink: &mut K, pixels: &[Option<Pixel>]) -> Result<(), Failed>
     ensures ok { OnOk result (GrowsBy (K.written sink.old) (K.written sink.new) (reply_text (DumpRow pixels.now))) }
     ensures err { OnErr result (GrowsPart (K.written sink.old) (K.written sink.new) (reply_text (DumpRow pixels.now))) }
     ensures cause { HasCause (K.faults sink.old) (K.faults sink.new) result }

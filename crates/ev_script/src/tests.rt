@@ -1,5 +1,6 @@
 use super::*;
-use ev_port::{MemScreen, MemSink, MemSource, MemStore, ScreenRoom};
+use ev_port::{Bytes, MemScreen, MemSink, MemSource, MemStore, ScreenRoom, StoredFile};
+use std::alloc::Global;
 use std::process::Abort;
 use std::test::Fail;
 
@@ -8,20 +9,82 @@ use std::test::Fail;
 struct Failing<'a> {
     reads: &'a [u64],
     writes: &'a [u64],
+    fetches: &'a [u64],
     frames: &'a [u64],
 }
 
 const NEVER: Failing<'static> = Failing {
     reads: &[],
     writes: &[],
+    fetches: &[],
     frames: &[],
 };
 
-// Carries out a script over ample memory, and compares how it ends and its log. Gives how many frames
-// were shown.
+// One green pixel; the same in the second format; nine blue pixels; and bytes that are no image.
+const DOT: &[u8] = b"EVI1\x01\0\0\0\x01\0\0\0\xff\0\xff\0";
+
+const GREY: &[u8] = b"EVI2\x01\x01\0\0\0\x01\0\0\0\x80";
+
+const NINE: &[u8] =
+    b"EVI1\x03\0\0\0\x03\0\0\0\xff\0\0\xff\xff\0\0\xff\xff\0\0\xff\xff\0\0\xff\xff\0\0\xff\xff\0\0\xff\xff\0\0\xff\xff\0\0\xff\xff\0\0\xff";
+
+const FILES: [(&[u8], &[u8]); 9] = [
+    (b"dot.evi", DOT),
+    (b"grey.evi", GREY),
+    (b"n.evi", NINE),
+    (b"short.evi", b"EVI1\x01\0\0\0\x01\0\0\0\xff\0\xff"),
+    (b"long.evi", b"EVI1\x01\0\0\0\x01\0\0\0\xff\0\xff\0\0"),
+    (b"premul.evi", b"EVI1\x01\0\0\0\x01\0\0\0\0\x01\0\0"),
+    (b"kind.evi", b"EVI2\x02\x01\0\0\0\x01\0\0\0\x80"),
+    (b"cut.evi", b"EVI2\x01\x01\0\0\0\x01\0\0\0"),
+    (b"wide.evi", b"EVI1\xff\xff\xff\xff\x01\0\0\0"),
+];
+
+// A font of one row, whose glyphs are one column wide; the one of `A` is drawn, and no other.
+fn font(alloc: Global) -> Result<Vec<u8>, Fail> {
+    let mut bytes = vec![in alloc; 0; 480]?;
+    bytes[..5].copy_from_slice(b"EVF1\x01");
+    bytes[5..100].fill(1);
+    bytes[232] = 1;
+    Ok(bytes)
+}
+
+fn stored(alloc: Global, key: &[u8], bytes: &[u8]) -> Result<StoredFile, Fail> {
+    Ok(StoredFile {
+        key: Bytes::new(key.to_vec(alloc)?),
+        bytes: Bytes::new(bytes.to_vec(alloc)?),
+    })
+}
+
+fn files(alloc: Global) -> Result<Vec<StoredFile>, Fail> {
+    let mut files = Vec::new(alloc);
+    for (key, bytes) in FILES {
+        files.push(stored(alloc, key, bytes)?)?;
+    }
+    let font = font(alloc)?;
+    files.push(stored(alloc, b"f.evf", &font)?)?;
+    Ok(files)
+}
+
+// Carries out a script over ample memory and the files above, and compares how it ends and its log.
+// Gives how many frames were shown.
 fn compare<R: AllocGlobal + Abort>(
     rt: &R,
     words: &[&str],
+    script: &[u8],
+    failing: &Failing,
+    status: Status,
+    log: &[u8],
+) -> Result<usize, Fail> {
+    let files = files(rt.alloc())?;
+    compare_over(rt, words, files, script, failing, status, log)
+}
+
+// The same over a store with these files.
+fn compare_over<R: AllocGlobal + Abort>(
+    rt: &R,
+    words: &[&str],
+    files: Vec<StoredFile>,
     script: &[u8],
     failing: &Failing,
     status: Status,
@@ -31,11 +94,11 @@ fn compare<R: AllocGlobal + Abort>(
     let room = ScreenRoom {
         frames: 8,
         updates: 8,
-        pixels: 1024,
+        pixels: 16_384,
     };
     let mut source = MemSource::new(script.to_vec(alloc)?, failing.reads.to_vec(alloc)?);
     let mut sink = MemSink::new(alloc, 4096, failing.writes.to_vec(alloc)?)?;
-    let mut store = MemStore::new(Vec::new(alloc), Vec::new(alloc));
+    let mut store = MemStore::new(files, failing.fetches.to_vec(alloc)?);
     let mut screen = MemScreen::new(alloc, room, failing.frames.to_vec(alloc)?)?;
     let ended = run_alone(
         alloc,
@@ -80,21 +143,102 @@ const LOGS: [(&[u8], &[u8]); 11] = [
     ),
     (
         b"rect a\nrect b\nclip a a\nclip a b\nclip b a\nsmart s\nmember a s\nmember s a\nlayer b 1\nabove a b\nrect a\nshow z\nfill a 0 0 1 1\nimage i\nload i\ncancel i\nfree b\ndump\n",
-        b"refused itself 3\nrefused cycle 5\nrefused clipping 7\nrefused kind 8\nrefused layer 10\nrefused exists 11\nrefused unknown 12\nrefused kind 13\nbad word 15\nbad word 16\nrefused clipping 17\nrefused none 18\n",
+        b"refused itself 3\nrefused cycle 5\nrefused clipping 7\nrefused kind 8\nrefused layer 10\nrefused exists 11\nrefused unknown 12\nrefused kind 13\nrefused nofile 15\nbad word 16\nrefused clipping 17\nrefused none 18\n",
     ),
     (
         b"image i\nresize i 2 1\nshow i\nfill i -1 0 0 1\nfill i -1 0 1 1\nborder i 0 4097 0 0\nborder i 1 0 1 4096\ncenter i off\nfilled i\nfilled j\nfill r 0 0 1 1\nrect r\nborder r 0 0 0 0\ncenter r on\nop i copy\nsize 1 1\nrender\ndump\n",
         b"refused range 4\nrefused range 6\nrefused unknown 10\nrefused unknown 11\nrefused kind 13\nrefused kind 14\nshown 1 1 1 1\nupdate 0 0 1 1\n00000000\n",
     ),
     (
-        b"rect r\nmove r 1000001 0\nmove r 1000000 0\nmove r 01 0\nmove r 1\nmvoe r\nshow .r\n\n  \n # hm\nop r melt\n#\xc3\nsay r  \ntext i\n",
-        b"refused range 2\nbad number 4\nbad count 5\nbad word 6\nbad name 7\nbad word 11\nbad byte 12\nbad word 13\nbad word 14\n",
+        b"rect r\nmove r 1000001 0\nmove r 1000000 0\nmove r 01 0\nmove r 1\nmvoe r\nshow .r\n\n  \n # hm\nop r melt\n#\xc3\nsay r  \nstats\n",
+        b"refused range 2\nbad number 4\nbad count 5\nbad word 6\nbad name 7\nbad word 11\nbad byte 12\nrefused kind 13\nbad word 14\n",
     ),
     (
         b"dump\nsum\nrect r\nrect r\nmove z 0 0\nsize 0 1\nsize 4097 1\nlayer r 32768\nabove r r\nbelow r z\ncolor r 0 0 256 0\nresize r -1 0\n",
         b"refused none 1\nrefused none 2\nrefused exists 4\nrefused unknown 5\nrefused range 6\nrefused range 7\nrefused range 8\nrefused itself 9\nrefused unknown 10\nrefused range 11\nrefused range 12\n",
     ),
 ];
+
+// Scripts that load: a pixel in a fill beside its object's corner; a border without its centre, also over
+// white; each fault of an image; the second format; a font; a store that fails; files and fonts of other
+// kinds; and a text that is changed, whose font is dropped by another key.
+const LOADS: [(&[u8], &[u8]); 8] = [
+    (
+        b"size 4 4\nimage i\nresize i 4 4\nfile i dot.evi\nfill i -1 -1 3 3\nborder i 5 5 5 5\ncenter i off\nshow i\nload i\nrender\ndump\n",
+        b"preloaded i\nshown 1 4 4 1\nupdate 0 0 4 4\n00000000 00000000 00000000 00000000\n00000000 00000000 00000000 00000000\n00000000 00000000 ff00ff00 00000000\n00000000 00000000 00000000 00000000\n",
+    ),
+    (
+        b"size 4 4\nimage i\nresize i 4 4\nfile i n.evi\nborder i 1 1 1 1\ncenter i off\nshow i\nload i\nrender\ndump\n",
+        b"preloaded i\nshown 1 4 4 1\nupdate 0 0 4 4\nff0000ff ff0000ff ff0000ff ff0000ff\nff0000ff 00000000 00000000 ff0000ff\nff0000ff 00000000 00000000 ff0000ff\nff0000ff ff0000ff ff0000ff ff0000ff\n",
+    ),
+    (
+        b"size 4 4\nrect w\nresize w 4 4\nshow w\nimage i\nresize i 4 4\nfile i n.evi\nborder i 1 1 1 1\ncenter i off\nshow i\nload i\nrender\ndump\n",
+        b"preloaded i\nshown 1 4 4 1\nupdate 0 0 4 4\nff0000ff ff0000ff ff0000ff ff0000ff\nff0000ff ffffffff ffffffff ff0000ff\nff0000ff ffffffff ffffffff ff0000ff\nff0000ff ff0000ff ff0000ff ff0000ff\n",
+    ),
+    (
+        b"image i\nfile i short.evi\nload i\nfile i long.evi\nload i\nfile i premul.evi\nload i\nfile i far.evi\nload i\nfile i wide.evi\nload i\nfile i grey.evi\nload i\nfile i kind.evi\nload i\nfile i cut.evi\nload i\n",
+        b"preload-failed i image short 15\npreload-failed i image long 16\npreload-failed i image premul 12\npreload-failed i missing\npreload-failed i image size 4\npreloaded i\npreload-failed i image kind 4\npreload-failed i image short 13\n",
+    ),
+    (
+        b"size 1 1\nimage i\nresize i 1 1\nshow i\nfile i grey.evi\nload i\nrender\ndump\nfile i dot.evi\nrender\ndump\nload i\nfile z dot.evi\nfont i f.evf\nsay i A\nrender\ndump\n",
+        b"preloaded i\nshown 1 1 1 1\nupdate 0 0 1 1\n80808080\nshown 2 1 1 1\nupdate 0 0 1 1\n00000000\npreloaded i\nrefused unknown 13\nrefused kind 14\nrefused kind 15\nshown 3 1 1 1\nupdate 0 0 1 1\nff00ff00\n",
+    ),
+    (
+        b"size 3 1\ntext t\nresize t 3 1\nfont t f.evf\nsay t A A\nshow t\nload t\nrender\ndump\n",
+        b"preloaded t\nshown 1 3 1 1\nupdate 0 0 3 1\nffffffff 00000000 ffffffff\n",
+    ),
+    (
+        b"size 2 1\ntext t\nresize t 2 1\nshow t\nload t\nfont t dot.evi\nload t\nfont t f.evf\nload t\nsay t  A\nrender\ndump\nfile t dot.evi\nfill t 0 0 1 1\nsay t\nrender\ndump\nload z\nsmart s\nload s\n",
+        b"refused nofile 5\npreload-failed t font magic 0\npreloaded t\nshown 1 2 1 1\nupdate 0 0 2 1\n00000000 ffffffff\nrefused kind 13\nrefused kind 14\nshown 2 2 1 1\nupdate 0 0 2 1\n00000000 00000000\nrefused unknown 18\nrefused kind 20\n",
+    ),
+    (
+        b"size 1 1\ntext t\nresize t 1 1\nshow t\nfont t f.evf\nload t\nsay t A\nfont t f.evf\nrender\ndump\nload t\nrender\ndump\n",
+        b"preloaded t\nshown 1 1 1 1\nupdate 0 0 1 1\n00000000\npreloaded t\nshown 2 1 1 1\nupdate 0 0 1 1\nffffffff\n",
+    ),
+];
+
+#[test]
+fn logs_of_loads(rt: HostRuntime) -> Result<(), Fail> {
+    for (script, log) in LOADS {
+        compare(&rt, &[], script, &NEVER, Status::Ok, log)?;
+    }
+    Ok(())
+}
+
+// A store fails at its second call, and in that load alone.
+#[test]
+fn failing_store(rt: HostRuntime) -> Result<(), Fail> {
+    let second: [u64; 1] = [2];
+    let failing = Failing {
+        fetches: &second,
+        ..NEVER
+    };
+    compare(
+        &rt,
+        &[],
+        b"image i\nfile i dot.evi\nload i\nload i\nload i\n",
+        &failing,
+        Status::Ok,
+        b"preloaded i\npreload-failed i store\npreloaded i\n",
+    )?;
+    Ok(())
+}
+
+// A file of one byte more than any that is read.
+#[test]
+fn large_file(rt: HostRuntime) -> Result<(), Fail> {
+    let alloc = rt.alloc();
+    let bytes = vec![in alloc; 0; 67_108_878]?;
+    let mut files = Vec::new(alloc);
+    files.push(StoredFile {
+        key: Bytes::new(b"i".to_vec(alloc)?),
+        bytes: Bytes::new(bytes),
+    })?;
+    let script = b"image i\nfile i i\nload i\n";
+    let log = b"preload-failed i large\n";
+    compare_over(&rt, &[], files, script, &NEVER, Status::Ok, log)?;
+    Ok(())
+}
 
 #[test]
 fn logs_of_scripts(rt: HostRuntime) -> Result<(), Fail> {
@@ -151,12 +295,7 @@ fn faults(rt: HostRuntime) -> Result<(), Fail> {
 fn words(rt: HostRuntime) -> Result<(), Fail> {
     let log: &[u8] = b"shown 1 2 1 1\nupdate 0 0 2 1\nffff0000 ffff0000\n";
     compare(&rt, &["--workers", "0"], RED, &NEVER, Status::Ok, log)?;
-    let refused: [&[&str]; 4] = [
-        &["--workers"],
-        &["--workers", "1"],
-        &["--speed", "0"],
-        &["--workers", "0", "0"],
-    ];
+    let refused: [&[&str]; 3] = [&["--cell", "3"], &["--workers", "17"], &["--speed", "1"]];
     for words in refused {
         compare(&rt, words, RED, &NEVER, Status::Usage, b"")?;
     }
@@ -257,6 +396,63 @@ fn long_ways_up(rt: HostRuntime) -> Result<(), Fail> {
         script.extend_from_slice(b"render\ndump\n")?;
         let log: &[u8] = b"shown 1 2 1 1\nupdate 0 0 2 1\nffffffff 00000000\n";
         compare(&rt, &[], &script, &NEVER, Status::Ok, log)?;
+    }
+    Ok(())
+}
+
+// A small interface: a panel, and a list of ten lines of text that a rectangle clips.
+#[test]
+fn small_interface(rt: HostRuntime) -> Result<(), Fail> {
+    let alloc = rt.alloc();
+    let mut script =
+        b"size 120 100\nimage panel\nresize panel 120 100\nborder panel 4 4 4 4\nfile panel n.evi\nshow panel\nload panel\nsmart list\nshow list\nrect area\nmove area 10 10\nresize area 100 80\nshow area\nclip list area\n".to_vec(
+            alloc,
+        )?;
+    let mut log = b"preloaded panel\n".to_vec(alloc)?;
+    for k in 0..10_u8 {
+        push_text(&mut script, b'0' + k)?;
+        log.extend_from_slice(b"preloaded t")?;
+        log.push(b'0' + k)?;
+        log.push(b'\n')?;
+    }
+    script.extend_from_slice(b"render\n")?;
+    log.extend_from_slice(b"shown 1 120 100 1\nupdate 0 0 120 100\n")?;
+    compare(&rt, &[], &script, &NEVER, Status::Ok, &log)?;
+    Ok(())
+}
+
+// How many pixels the text of this digit stands below the top.
+fn push_height(script: &mut Vec<u8>, digit: u8) -> Result<(), Fail> {
+    let heights: [&[u8]; 10] = [
+        b"10", b"20", b"30", b"40", b"50", b"60", b"70", b"80", b"90", b"100",
+    ];
+    script.extend_from_slice(heights[usize::from(digit % 48 % 10)])?;
+    Ok(())
+}
+
+// The lines of the text of this digit.
+fn push_text(script: &mut Vec<u8>, digit: u8) -> Result<(), Fail> {
+    let lines: [(&[u8], &[u8]); 8] = [
+        (b"text t", b""),
+        (b"move t", b" 12 "),
+        (b"resize t", b" 96 10"),
+        (b"font t", b" f.evf"),
+        (b"say t", b" Item "),
+        (b"member t", b" list"),
+        (b"show t", b""),
+        (b"load t", b""),
+    ];
+    for (front, back) in lines {
+        script.extend_from_slice(front)?;
+        script.push(digit)?;
+        script.extend_from_slice(back)?;
+        if back == b" Item ".as_slice() {
+            script.push(digit)?;
+        }
+        if back == b" 12 ".as_slice() {
+            push_height(script, digit)?;
+        }
+        script.push(b'\n')?;
     }
     Ok(())
 }

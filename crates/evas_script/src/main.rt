@@ -1,8 +1,8 @@
 //! Carries out the script of standard input, and writes its log to standard output.
 #![tactic(auto)]
 
-use ev_port::{InSource, MemStore, NoScreen, OutSink};
-use ev_script::{Status, run_alone};
+use ev_port::{FolderScreen, FolderStore, InSource, NoScreen, OutSink, Screen};
+use ev_script::{BadWords, Folders, Status, read_folders, run_alone};
 use std::alloc::{AllocError, Global};
 use std::env;
 use std::io::{self, ErrorKind};
@@ -12,17 +12,7 @@ fn main(rt: HostRuntime) -> ExitCode {
     let alloc = rt.alloc();
     let status = match env::args(&rt) {
         Ok(args) => match words_of(alloc, args) {
-            Ok(words) => match texts(alloc, &words) {
-                Ok(words) => run_alone(
-                    alloc,
-                    &words,
-                    &mut InSource::new(rt.reader()),
-                    &mut OutSink::new(io::writer(&rt)),
-                    &mut MemStore::new(Vec::new(alloc), Vec::new(alloc)),
-                    &mut NoScreen::new(),
-                ),
-                Err(_) => Status::NoMemory,
-            },
+            Ok(words) => run(rt, &words),
             Err(_) => Status::NoMemory,
         },
         Err(error) => without_args(&error),
@@ -49,6 +39,59 @@ fn words_of(alloc: Global, args: env::Args) -> Result<Vec<String>, AllocError> {
 
 fn texts(alloc: Global, words: &[String]) -> Result<Vec<&str>, AllocError> {
     words.iter().map(|word| word.as_str()).collect(alloc)
+}
+
+// A run with these words.
+fn run(rt: HostRuntime, words: &[String]) -> Status {
+    let Ok(words) = texts(rt.alloc(), words) else {
+        return Status::NoMemory;
+    };
+    match read_folders(rt.alloc(), &words) {
+        Ok(folders) => run_in(rt, &words, folders),
+        Err(BadWords::Usage) => Status::Usage,
+        Err(BadWords::NoMemory) => Status::NoMemory,
+    }
+}
+
+// A run over the files of one folder, whose frames go into another, or nowhere.
+fn run_in(rt: HostRuntime, words: &[&str], folders: Folders) -> Status {
+    let Ok(folder) = store_folder(rt.alloc(), folders.store) else {
+        return Status::NoMemory;
+    };
+    let store = FolderStore::new(rt, rt.alloc(), folder);
+    match folders.frames {
+        Some(folder) => match FolderScreen::new(rt, rt.alloc(), folder) {
+            Ok(screen) => run_over(rt, words, store, screen),
+            Err(_) => Status::NoMemory,
+        },
+        None => run_over(rt, words, store, NoScreen::new()),
+    }
+}
+
+// Where images and fonts come from: the folder that is named, or else the one where the run was begun.
+fn store_folder(alloc: Global, named: Option<String>) -> Result<String, AllocError> {
+    match named {
+        Some(folder) => Ok(folder),
+        None => ".".to_string(alloc),
+    }
+}
+
+fn run_over<P: Screen + Drop>(
+    rt: HostRuntime,
+    words: &[&str],
+    mut store: FolderStore<HostRuntime>,
+    mut screen: P,
+) -> Status {
+    let mut source = InSource::new(rt.reader());
+    let mut sink = OutSink::new(io::writer(&rt));
+    run_alone(
+        rt.alloc(),
+        words,
+        &mut source,
+        &mut sink,
+        &mut store,
+        &mut screen,
+    )
 }
 
 // The exit status of a run.

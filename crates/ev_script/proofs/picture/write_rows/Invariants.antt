@@ -1,4 +1,4 @@
-use Rattle.std.proofs.Common.{◌≤◌, map}
+use Rattle.std.proofs.Common.{◌≤◌, map, Some}
 use Rattle.std.specs.List.{range_with_len}
 use Rattle.ev_argb.specs.Grid.{row_of}
 use Rattle.ev_port.specs.Told.{GrowsBy}
@@ -8,6 +8,6 @@ use Rattle.ev_script.proofs.picture.write_rows.Given as goal
 
 abbrev pub invariant-loop-y : goal.invariant-loop-y
 invariant-loop-y g l = record {
-  written : GrowsBy (g.K.Sink.written l.fn.sink) (g.K.Sink.written l.sink) (text (map (λ y. DumpRow (row_of l.picture y)) (range_with_len 0 l.y)));
+  written : GrowsBy (g.K.Sink.written l.fn.sink) (g.K.Sink.written l.sink) (text (map (λ y. DumpRow (map Some (row_of l.picture y))) (range_with_len 0 l.y)));
   faults : g.K.Sink.faults l.fn.sink ≤ g.K.Sink.faults l.sink;
 }

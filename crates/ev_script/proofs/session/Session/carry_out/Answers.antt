@@ -9,18 +9,18 @@ use Rattle.ev_script.proofs.session.Session.carry_out.Goals as goal
 
 pub returns-in-Empty-clause-carries : goal.returns-in-Empty-clause-carries
 returns-in-Empty-clause-carries g c = rw c.in-Empty.is (λ state stands.
-    stayed Whole state c.args.number line.Empty _ _ _ _ c.args.self.now [] stands refl refl (grows_by_none _))
+    stayed Whole _ state c.args.number line.Empty _ _ _ _ _ c.args.self.now [] stands refl refl refl (grows_by_none _))
 
 pub returns-in-Bad-clause-carries : goal.returns-in-Bad-clause-carries
 returns-in-Bad-clause-carries g c =
     let fault = c.in-Bad.fault in
     let reply = Bad fault c.args.number in
     rw c.in-Bad.is (on_ok_weaker c.write_bad.result (λ wrote state stands.
-    stayed Whole state c.args.number (line.Bad fault) _ _ _ _ c.args.self.now (reply ∷ []) stands refl refl (one_text Whole _ _ reply wrote)) c.write_bad.ensures.ok)
+    stayed Whole _ state c.args.number (line.Bad fault) _ _ _ _ _ c.args.self.now (reply ∷ []) stands refl refl refl (one_text Whole _ _ reply wrote)) c.write_bad.ensures.ok)
 
 pub returns-in-Bad-clause-cut : goal.returns-in-Bad-clause-cut
 returns-in-Bad-clause-cut g c =
     let fault = c.in-Bad.fault in
     let reply = Bad fault c.args.number in
     rw c.in-Bad.is (on_err_weaker c.write_bad.result (λ wrote state stands.
-    stayed Part state c.args.number (line.Bad fault) _ _ _ _ c.args.self.now (reply ∷ []) stands refl refl (one_text Part _ _ reply wrote)) c.write_bad.ensures.err)
+    stayed Part _ state c.args.number (line.Bad fault) _ _ _ _ _ c.args.self.now (reply ∷ []) stands refl refl refl (one_text Part _ _ reply wrote)) c.write_bad.ensures.err)

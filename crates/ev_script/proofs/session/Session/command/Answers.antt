@@ -5,8 +5,8 @@ use Rattle.ev_script.proofs.session.Session.command.Goals as goal
 
 pub returns-in_default-clause-carries : goal.returns-in_default-clause-carries
 returns-in_default-clause-carries g c = on_ok_weaker c.write_bad.result (λ wrote state stands.
-    command_unbuilt Whole state c.args.number c.args.command.now _ _ _ _ c.args.self.now stands c.in_default.not-Edit c.in_default.not-Render c.in_default.not-Dump c.in_default.not-Sum wrote) c.write_bad.ensures.ok
+    command_unbuilt Whole _ state c.args.number c.args.command.now _ _ _ _ _ c.args.self.now stands c.in_default.not-Edit c.in_default.not-Load c.in_default.not-Render c.in_default.not-Dump c.in_default.not-Sum wrote) c.write_bad.ensures.ok
 
 pub returns-in_default-clause-cut : goal.returns-in_default-clause-cut
 returns-in_default-clause-cut g c = on_err_weaker c.write_bad.result (λ wrote state stands.
-    command_unbuilt Part state c.args.number c.args.command.now _ _ _ _ c.args.self.now stands c.in_default.not-Edit c.in_default.not-Render c.in_default.not-Dump c.in_default.not-Sum wrote) c.write_bad.ensures.err
+    command_unbuilt Part _ state c.args.number c.args.command.now _ _ _ _ _ c.args.self.now stands c.in_default.not-Edit c.in_default.not-Load c.in_default.not-Render c.in_default.not-Dump c.in_default.not-Sum wrote) c.write_bad.ensures.err

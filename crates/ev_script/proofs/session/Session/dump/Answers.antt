@@ -5,16 +5,16 @@ use Rattle.ev_script.proofs.session.Session.dump.Goals as goal
 
 pub returns-in-None-clause-carries : goal.returns-in-None-clause-carries
 returns-in-None-clause-carries g c = on_ok_weaker c.write_refused.result (λ wrote state stands.
-    dump_refused Whole state c.args.number _ _ _ _ c.args.self.now stands c.in-None.is wrote) c.write_refused.ensures.ok
+    dump_refused Whole _ state c.args.number _ _ _ _ _ c.args.self.now stands c.in-None.is wrote) c.write_refused.ensures.ok
 
 pub returns-in-None-clause-cut : goal.returns-in-None-clause-cut
 returns-in-None-clause-cut g c = on_err_weaker c.write_refused.result (λ wrote state stands.
-    dump_refused Part state c.args.number _ _ _ _ c.args.self.now stands c.in-None.is wrote) c.write_refused.ensures.err
+    dump_refused Part _ state c.args.number _ _ _ _ _ c.args.self.now stands c.in-None.is wrote) c.write_refused.ensures.err
 
 pub returns-in-Some-clause-carries : goal.returns-in-Some-clause-carries
 returns-in-Some-clause-carries g c = on_ok_weaker c.write_rows.result (λ wrote state stands.
-    picture_dumped Whole state c.args.number c.in-Some.picture _ _ _ _ c.args.self.now stands c.in-Some.is wrote) c.write_rows.ensures.ok
+    picture_dumped Whole _ state c.args.number c.in-Some.picture _ _ _ _ _ c.args.self.now stands c.in-Some.is wrote) c.write_rows.ensures.ok
 
 pub returns-in-Some-clause-cut : goal.returns-in-Some-clause-cut
 returns-in-Some-clause-cut g c = on_err_weaker c.write_rows.result (λ wrote state stands.
-    picture_dumped Part state c.args.number c.in-Some.picture _ _ _ _ c.args.self.now stands c.in-Some.is wrote) c.write_rows.ensures.err
+    picture_dumped Part _ state c.args.number c.in-Some.picture _ _ _ _ _ c.args.self.now stands c.in-Some.is wrote) c.write_rows.ensures.err
