@@ -1,12 +1,13 @@
 -- Places of looks in a list.
 use Rattle.std.proofs.Common.{◌≡◌, ◌≢◌, ℕ, zero, suc, ◌+◌, ◌<◌, ⊎_elim, Bool, true, false, cond, ◌&&◌, ◌||◌, ◌==◌, is_some, List, [], ◌∷◌, map, length, get_or, Some, None, refl, sym, ap, ap₂, ◌∙◌, arith}
-use Rattle.std.proofs.lemmas.Bool.{eqb-true, ne_eqb, cases_lt}
+use Rattle.std.proofs.lemmas.Bool.{eqb-true, eq-eqb, ne_eqb, cases_lt}
 use Rattle.std.proofs.lemmas.List.Folds.{list_any_none}
 use Rattle.std.proofs.lemmas.Grind.{common_steps}
 use Rattle.std.specs.List.{list_any, position_from}
 use Rattle.ev_model.specs.Look.{Look, look_of}
 use Rattle.ev_model.specs.declared.scene.Record.{Record}
 use Rattle.ev_damage.specs.Same.{same_look}
+use Rattle.ev_damage.specs.Damage.{is_kept}
 use Rattle.ev_damage.specs.Places.{look_ids, HaveOwnIds, place_of_id, place_of}
 use Rattle.ev_damage.proofs.Members.{neither}
 use Rattle.ev_damage.proofs.Staying.{id_of}
@@ -134,3 +135,35 @@ place_same others l at d h same = place_some (map look_of others) l at (look_of 
 
 pub place_differs : (others : List Record) (l : Look) (at : ℕ) (d : Record) → HaveOwnIds (map look_of others) → place_of_id (map look_of others) (id_of l) ≡ Some at → same_look l (look_of (get_or others at d)) ≡ false → place_of (map look_of others) l ≡ None
 place_differs others l at d own h differ = place_other (map look_of others) l at (look_of d) own h (ap (same_look l) (record_at others at d) ∙ differ)
+
+-- the place that was guessed
+pub place_guessed : (others : List Record) (id at : ℕ) (d : Record) → HaveOwnIds (map look_of others) → at < length others → (get_or others at d).id ≡ id → place_of_id (map look_of others) id ≡ Some at
+place_guessed others id at d own inside same =
+    let looks : List Look = map look_of others in
+    let long : at < length looks = grind (arith, common_steps, inside) in
+    let here : (e : Look) → get_or looks at e ≡ look_of (get_or others at d) = λ e. any_look looks at e (look_of d) long ∙ record_at others at d in
+    is_first (λ m. m.id == id) 0 looks at long
+    (λ e. eq-eqb (get_or looks at e).id id (ap (λ l. l.id) (here e) ∙ same))
+    (λ j e low. ne_eqb (get_or looks j e).id id (λ both. apart looks j at e own low long (both ∙ sym same ∙ ap (λ l. l.id) (sym (here e)))))
+    ∙ ap Some (omega arith)
+  where
+    any_look : (xs : List Look) (k : ℕ) (u d : Look) → k < length xs → get_or xs k u ≡ get_or xs k d
+    any_look xs k u d inside = grind (arith, common_steps)
+
+-- the place of the first record that passes is that of its look
+pub place_found : (n : ℕ) (others : List Record) (id : ℕ) → position_from (λ r. r.id == id) n others ≡ position_from (λ l. l.id == id) n (map look_of others)
+place_found n [] id = refl
+place_found n (r ∷ others) id = ap (λ o. cond (r.id == id) (Some n) o) (place_found (n + 1) others id)
+
+-- a look that is kept has the place of its object
+pub place_kept : (others : List Record) (l : Look) (at : ℕ) (d : Record) → HaveOwnIds (map look_of others) → place_of_id (map look_of others) (id_of l) ≡ Some at → is_kept (map look_of others) l ≡ true → place_of (map look_of others) l ≡ Some at
+place_kept others l at d own h kept = by_test (same_look l (look_of (get_or others at d))) refl
+  where
+    by_test : (b : Bool) → same_look l (look_of (get_or others at d)) ≡ b → place_of (map look_of others) l ≡ Some at
+    by_test true e = place_same others l at d h e
+    by_test false e =
+        let none = place_differs others l at d own h e in
+        absurd (let never : false ≡ true = sym (ap is_some none) ∙ some_is (λ m. m.id == l.id && same_look l m) 0 (map look_of others) ∙ kept in cc)
+
+pub none_kept : (others : List Look) (l : Look) → None ≡ place_of_id others (id_of l) → None ≡ place_of others l
+none_kept others l none = sym (place_none others l (sym none))

@@ -1,5 +1,6 @@
 pub mod Same
 pub mod Damage
+pub mod Marked
 pub mod Stay
 pub mod Places
 pub mod Small

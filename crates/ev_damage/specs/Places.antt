@@ -1,5 +1,5 @@
 -- Where looks stand in another list.
-use Rattle.std.specs.Prelude.{◌≡◌, ◌≢◌, ℕ, ◌<◌, ◌≤◌, ℤ, Bool, false, ◌&&◌, ◌||◌, ◌==◌, nat_eq, nat_lt, map, length, get_or, AllPairs, List, [], ◌∷◌, Option, option_map}
+use Rattle.std.specs.Prelude.{◌≡◌, ◌≢◌, ℕ, ◌<◌, ◌≤◌, ℤ, Bool, false, ◌&&◌, ◌||◌, ◌==◌, nat_eq, nat_lt, map, length, get_or, AllPairs, List, [], ◌∷◌, Option, Some, None, ⊤, option_map}
 use Rattle.std.specs.HashMap.{HashMap, get}
 use Rattle.std.specs.List.{list_any, position_from}
 use Rattle.ev_geom.specs.Area.{Area, holds}
@@ -24,13 +24,22 @@ place_of_id looks id = position_from (λ l. l.id == id) 0 looks
 pub record IsIndex {S : Type 0} (index : HashMap ℕ ℕ S) (looks : List Look) : Type 0 where
   pub places : (id : ℕ) → get nat_eq index id ≡ place_of_id looks id
 
+-- the map, if there is one, has the place of each id
+abbrev pub MayBeIndex : {S : Type 0} → Option (HashMap ℕ ℕ S) → List Look → Type 0
+MayBeIndex None looks = ⊤
+MayBeIndex (Some index) looks = IsIndex index looks
+
 -- where an equal look of the same object stands
 abbrev pub place_of : List Look → Look → Option ℕ
 place_of others l = position_from (λ m. m.id == l.id && same_look l m) 0 others
 
+-- an area with its place, if there is one
+abbrev pub placed_at : Area → Option ℕ → Option Placed
+placed_at area place = option_map (λ at. record { at = at; area = area }) place
+
 -- the area of a look, with that place
 abbrev pub placed : List Look → Look → Option Placed
-placed others l = option_map (λ at. record { at = at; area = l.area }) (place_of others l)
+placed others l = placed_at l.area (place_of others l)
 
 -- whether the pixel lies in the area of this one, and in that of one which is placed higher
 abbrev pub in_higher : Placed → List Placed → ℤ → ℤ → Bool

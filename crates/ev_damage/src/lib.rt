@@ -3,12 +3,14 @@
 
 mod damage;
 mod laws;
+mod marks;
 mod places;
 mod same;
 #[cfg(test)]
 mod tests;
 mod turned;
+mod unkept;
 
-pub use damage::between;
+pub use damage::{between, between_marked};
 pub use ev_region::NoMemory;
 pub use laws::{equal_looks_pass, undamaged_pixels_stay};

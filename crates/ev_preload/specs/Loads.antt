@@ -1,11 +1,11 @@
 -- The running preloads, and what begins, holds and ends them.
-use Rattle.std.specs.Prelude.{◌≡◌, ℕ, ◌+◌, ◌<◌, ◌≤◌, Bool, ◌==◌, ◌&&◌, nat_le, List, [], ◌∷◌, ◌++◌, length, Option, Some, None, IfSome, is_some, is_none, Result, Ok, Err, if◌then◌else◌}
+use Rattle.std.specs.Prelude.{◌≡◌, ℕ, ◌+◌, ◌<◌, ◌≤◌, Bool, false, ◌==◌, ◌&&◌, not, nat_le, List, [], ◌∷◌, ◌++◌, length, filter, find, slice_get, Option, Some, None, IfSome, is_some, is_none, Result, Ok, Err, if◌then◌else◌}
 use Rattle.std.specs.List.{list_any, AllByRecursion}
-use Rattle.std.specs.Option.{option_map}
+use Rattle.std.specs.Option.{option_map, option_map_or}
 use Rattle.ev_model.specs.declared.content.Kind.{Kind}
 use Rattle.ev_model.specs.declared.content.Kind.TheVariants as kinds
 use Rattle.ev_model.specs.declared.refusal.Refusal.{Refusal}
-use Rattle.ev_model.specs.declared.refusal.Refusal.TheVariants.{NoFile, Loading, Full}
+use Rattle.ev_model.specs.declared.refusal.Refusal.TheVariants.{NoFile, Loading, NotLoading, Full}
 use Rattle.ev_preload.specs.Job.{Job}
 use Rattle.ev_preload.specs.declared.end.LoadEnd.{LoadEnd}
 use Rattle.ev_preload.specs.declared.end.LoadEnd.TheVariants.{Done, Font}
@@ -82,13 +82,43 @@ without (preload ∷ running) number = if is_held number preload then running el
 abbrev pub after_collect : Loads → ℕ → Loads
 after_collect loads number = record loads { running = without loads.running number }
 
+-- a cancelling: the job of the preload for the object of this id, or that none runs
+abbrev pub cancelled : Loads → ℕ → Result Job Refusal
+cancelled loads id = option_map_or (λ preload. Ok preload.job) (find (is_for id) loads.running) (Err NotLoading)
+
+-- after a cancelling no preload for the object runs, whether an end was held or not
+abbrev pub after_cancel : Loads → ℕ → Loads
+after_cancel loads id = record loads { running = filter (λ preload. not (is_for id preload)) loads.running }
+
+-- whether an end is held for a preload
+abbrev pub is_served : Preload → Bool
+is_served preload = is_some preload.end
+
+-- what is to be served next: the job of the earliest preload without an end
+abbrev pub to_serve : List Preload → Option Job
+to_serve running = option_map (λ preload. preload.job) (find (λ preload. not (is_served preload)) running)
+
+-- what is to be collected next: the number of the earliest preload whose end is held
+abbrev pub first_held : List Preload → Option ℕ
+first_held running = option_map (λ preload. preload.job.number) (find is_served running)
+
+-- the job of the preload at a place, the places counted from 0
+abbrev pub job_at : List Preload → ℕ → Option Job
+job_at running place = option_map (λ preload. preload.job) (slice_get running place)
+
+-- no two preloads are for one object
+abbrev pub AreApart : List Preload → Type 0
+AreApart [] = Unit {0}
+AreApart (preload ∷ running) = (list_any (is_for preload.job.id) running ≡ false) × AreApart running
+
 -- numbers rise along the list, all of them above a first and none above a last
 abbrev pub Rises : ℕ → List Preload → ℕ → Type 0
 Rises before [] last = before ≤ last
 Rises before (preload ∷ running) last = (before < preload.job.number) × Rises preload.job.number running last
 
--- the preloads stand in the order of their numbers, at most 64, and each held end fits
+-- the preloads stand in the order of their numbers, at most 64 and at most one for an object, and each held end fits
 pub record IsSound (loads : Loads) : Type 0 where
   pub count : length loads.running ≤ 64
+  pub apart : AreApart loads.running
   pub order : Rises 0 loads.running loads.begun
   pub ends : AllByRecursion HeldFits loads.running

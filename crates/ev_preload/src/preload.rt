@@ -1,6 +1,6 @@
 // A running preload.
 ghost use Rattle.std.specs.Prelude.{◌≡◌, Some};
-ghost use Rattle.ev_preload.specs.Loads.{is_for, is_open, is_held, held_of};
+ghost use Rattle.ev_preload.specs.Loads.{is_for, is_open, is_held, held_of, is_served};
 
 use crate::{LoadEnd, LoadJob};
 
@@ -33,11 +33,25 @@ impl Preload {
         self.job.number() == number && self.end.is_some()
     }
 
+    // Whether an end is held for it.
+    pub(crate) fn is_served(&self) -> bool
+        ensures { result ≡ is_served self.now }
+    {
+        self.end.is_some()
+    }
+
     // Holds an end for it.
     pub(crate) fn keep(&mut self, end: LoadEnd)
         ensures { self.new ≡ record self.old { end = Some end } }
     {
         self.end = Some(end);
+    }
+
+    // The job alone.
+    pub(crate) fn into_job(self) -> LoadJob
+        ensures { result ≡ self.job }
+    {
+        self.job
     }
 
     // The job, and the end that is held for it.

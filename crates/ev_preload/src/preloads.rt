@@ -1,8 +1,8 @@
 // All running preloads.
-ghost use Rattle.std.specs.Prelude.{◌≡◌, ◌^◌, ◌<◌, [], true, length, IfOk, IfSome, IfNone, false};
+ghost use Rattle.std.specs.Prelude.{◌≡◌, ◌^◌, ◌<◌, [], true, length, IfOk, OnErr, IfSome, IfNone, false};
 ghost use Rattle.std.specs.List.{list_any, position, All};
 ghost use Rattle.ev_preload.specs.Job.{is_loadable};
-ghost use Rattle.ev_preload.specs.Loads.{is_for, is_open, is_held, begun_job, after_begin, Suits, after_hold, collected, after_collect, FitsKind, IsSound};
+ghost use Rattle.ev_preload.specs.Loads.{is_for, is_open, is_held, begun_job, after_begin, Suits, after_hold, collected, after_collect, cancelled, after_cancel, to_serve, first_held, job_at, FitsKind, IsSound};
 
 use crate::preload::Preload;
 use crate::{LoadEnd, LoadJob, NoMemory};
@@ -96,6 +96,45 @@ impl Preloads {
         self.running.remove(place).into_held()
     }
 
+    /// Takes out the preload for the object of this id, whether an end is held for it or not, and
+    /// gives its job. `NotLoading`: none runs, and nothing changes then.
+    pub fn cancel(&mut self, id: u64) -> Result<LoadJob, Refusal>
+        ensures answer { result ≡ cancelled self.old id }
+        ensures after { self.new ≡ after_cancel self.old id }
+        ensures own { IfOk result (λ job. job.id ≡ id) }
+        ensures same { OnErr result (self.new ≡ self.old) }
+    {
+        let Some(place) = self.place_for(id) else {
+            return Err(Refusal::NotLoading);
+        };
+        Ok(self.running.remove(place).into_job())
+    }
+
+    /// The job of the earliest preload without a held end. None exactly where there is none.
+    pub fn to_serve(&self) -> Option<LoadJob>
+        ensures { result ≡ to_serve self.now.running }
+    {
+        let preload = self.running.iter().find(|preload| !preload.is_served())?;
+        Some(preload.job)
+    }
+
+    /// The number of the earliest preload whose end is held. None exactly where no end is held.
+    pub fn first_held(&self) -> Option<u64>
+        ensures { result ≡ first_held self.now.running }
+    {
+        let preload = self.running.iter().find(|preload| preload.is_served())?;
+        Some(preload.job.number())
+    }
+
+    /// The job of the preload at a place, counted from 0 in the order of beginnings. None exactly
+    /// where the place isn't below `running`.
+    pub fn running_at(&self, place: u32) -> Option<LoadJob>
+        ensures { result ≡ job_at self.now.running place }
+    {
+        let preload = self.running.get(place as usize)?;
+        Some(preload.job)
+    }
+
     /// How many preloads run.
     pub fn running(&self) -> u32
         ensures value { result ≡ length self.now.running }
@@ -104,11 +143,19 @@ impl Preloads {
         self.running.len() as u32
     }
 
-    // Whether a preload for the object of this id runs.
-    fn is_loading(&self, id: u64) -> bool
+    /// Whether a preload for the object of this id runs.
+    pub fn is_loading(&self, id: u64) -> bool
         ensures { result ≡ list_any (is_for id) self.now.running }
     {
         self.running.iter().any(|preload| preload.is_for(id))
+    }
+
+    // The place of the preload for the object of this id.
+    fn place_for(&self, id: u64) -> Option<usize>
+        ensures value { result ≡ position (is_for id) self.now.running }
+        ensures none { IfNone result (All (λ preload. is_for id preload ≡ false) self.now.running) }
+    {
+        self.running.iter().position(|preload| preload.is_for(id))
     }
 
     // The place of the preload of this number, where no end is held for it.

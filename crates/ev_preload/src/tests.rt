@@ -64,5 +64,14 @@ fn loads(rt: HostRuntime) -> Result<(), Fail> {
     assert_eq!(rt; preloads.collect(2).is_none(), true);
     assert_eq!(rt; preloads.collect(1).is_some(), true);
     assert_eq!(rt; preloads.running(), 0);
+    assert_eq!(rt; preloads.begin(8, key, Kind::Image, Some(key)).err(), None);
+    assert_eq!(rt; preloads.begin(9, key, Kind::Text, Some(key)).err(), None);
+    preloads.hold(2, LoadEnd::Missing);
+    assert_eq!(rt; preloads.first_held(), Some(2));
+    assert_eq!(rt; preloads.to_serve().map(|job| job.number()), Some(3));
+    assert_eq!(rt; preloads.running_at(1).map(|job| job.id()), Some(9));
+    assert_eq!(rt; preloads.cancel(8).map(|job| job.number()), Ok(2));
+    assert_eq!(rt; preloads.cancel(8).err(), Some(Refusal::NotLoading));
+    assert_eq!(rt; preloads.is_loading(9), true);
     Ok(())
 }

@@ -13,6 +13,7 @@ pub mod Sighting
 pub mod Ways
 pub mod Nesting
 pub mod Trees
+pub mod Differing
 pub mod Refusing
 pub mod Moving
 pub mod Releasing

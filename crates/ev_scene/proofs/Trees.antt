@@ -1,14 +1,15 @@
 -- Where the objects of a scene stand in its order, by what they stand in.
-use Rattle.std.proofs.Common.{◌≡◌, ◌≢◌, ℕ, zero, suc, ℤ, ◌<◌, Bool, true, false, ◌==◌, if◌then◌else◌, List, [], ◌∷◌, length, get_or, Option, Some, None, is_some, All, inl, inr, refl, sym, subst, ap, ◌∙◌, arith, eq-eqb}
+use Rattle.std.proofs.Common.{◌≡◌, ◌≢◌, ℕ, zero, suc, ℤ, ◌<◌, Bool, true, false, ◌==◌, if◌then◌else◌, List, [], ◌∷◌, length, get_or, Option, Some, None, is_some, All, inl, inr, refl, sym, subst, ap, ap₂, ◌∙◌, arith, eq-eqb}
 use Rattle.std.proofs.lemmas.Bool.Decides.{nat_tests, eqb_tells}
 use Rattle.std.proofs.lemmas.Option.{none-some, same_Some}
 use Rattle.std.proofs.Math.Bool.{true≢false}
-use Rattle.std.specs.Prelude.{AllPairs, IsTrue, filter_map}
+use Rattle.std.specs.Prelude.{IsTrue, filter_map}
 use Rattle.std.specs.FinMap.{get, len}
 use Rattle.std.specs.List.{cons_option}
 use Rattle.std.specs.Option.{option_map, option_and_then}
 use Rattle.ev_model.specs.Chain.{ends}
 use Rattle.ev_model.specs.Content.{kind_of}
+use Rattle.ev_model.specs.Order.{ids}
 use Rattle.ev_model.specs.Up.{with_id, next, is_smart, is_smart_content}
 use Rattle.ev_model.specs.declared.content.Content.{Content}
 use Rattle.ev_model.specs.declared.content.Content.TheVariants as content
@@ -50,6 +51,10 @@ away (one ∷ xs) id apart h = elim h [ inl here ↦ apart.0 here | inr later �
 distinct_ids : (xs : List (ℕ × ℤ)) → stack.IsDistinct xs → IsDistinct (ids_of xs)
 distinct_ids [] d = tt
 distinct_ids (one ∷ xs) d = (away xs one.0 d.0, distinct_ids xs d.1)
+
+nothing_twice : (xs : List (ℕ × ℤ)) → ((x : ℕ) → ¬ Has x (ids_of xs)) → stack.IsDistinct xs
+nothing_twice [] none = tt
+nothing_twice (one ∷ xs) none = absurd (none one.0 (inl refl))
 
 some_mapped : {A B : Type 0} (f : A → B) (o : Option A) → is_some (option_map f o) ≡ true → is_some o ≡ true
 some_mapped f None e = absurd (true≢false (sym e))
@@ -132,16 +137,16 @@ module _ (w h : ℕ) (objects : List (Option Object)) (groups : List (List (ℕ 
     parent_there_too x None e = tt
     parent_there_too x (Some q) e = known x q e
 
+    at_place_of : (at : ℕ) (o : Object) → is_some (layer_at at o) ≡ true → place o.parent ≡ at
+    at_place_of at o t = elim (eqb_tells (place o.parent) at) [ inl same ↦ same.1 | inr differ ↦ absurd (true≢false (sym (rw differ.0 at t))) ]
+
     members : (x : ℕ) (parent : Option ℕ) → nest.IsParent is_there parent → Has x (siblings groups parent) → (over x ≡ parent) × (is_there x ≡ true)
     members x parent is h = go (of_id objects x) refl (sym (ap is_some (whole.stands (place parent) x)) ∙ layer_of (group groups parent) x h) where
-      at_place_of : (o : Object) → is_some (layer_at (place parent) o) ≡ true → place o.parent ≡ place parent
-      at_place_of o t = elim (eqb_tells (place o.parent) (place parent)) [ inl same ↦ same.1 | inr differ ↦ absurd (true≢false (sym (rw differ.0 at t))) ]
-
       go : (f : Option Object) → of_id objects x ≡ f → is_some (option_and_then (layer_at (place parent)) f) ≡ true → (over x ≡ parent) × (is_there x ≡ true)
       go None e t = absurd (true≢false (sym t))
       go (Some o) e t =
           let its : over x ≡ o.parent = parent_is x o e in
-          (its ∙ same_place o.parent parent (parent_there_too x o.parent its) is (at_place_of o t), ap is_some e)
+          (its ∙ same_place o.parent parent (parent_there_too x o.parent its) is (at_place_of (place parent) o t), ap is_some e)
 
     -- there are more objects than a way has
     fits : (x : ℕ) (ids : List ℕ) → is_there x ≡ true → IsWay over x ids → length ids < length (live objects)
@@ -168,6 +173,25 @@ module _ (w h : ℕ) (objects : List (Option Object)) (groups : List (List (ℕ 
     pub members_there : (q id : ℕ) → is_there q ≡ true → Has id (ids_in board (Some q)) → is_there id ≡ true
     members_there q id there h = nest.all_there (siblings groups) over is_there known stands members (length (live objects)) id (Some q) there h
 
+    -- in what is not there nothing stands
+    none_in : (k x : ℕ) → of_id objects (suc k) ≡ None → ¬ Has x (siblings groups (Some (suc k)))
+    none_in k x gone h = go (of_id objects x) refl (sym (ap is_some (whole.stands (suc k) x)) ∙ layer_of (group groups (Some (suc k))) x h) where
+      led : (p : Option ℕ) → over x ≡ p → place p ≡ suc k → ⊥
+      led None e at = absurd (omega (arith, at))
+      led (Some q) e at = true≢false (sym (known x q e) ∙ ap is_there at ∙ ap is_some gone)
+
+      go : (f : Option Object) → of_id objects x ≡ f → is_some (option_and_then (layer_at (suc k)) f) ≡ true → ⊥
+      go None e t = true≢false (sym t)
+      go (Some o) e t = led o.parent (parent_is x o e) (at_place_of (suc k) o t)
+
+    -- where no sibling of the order stands twice, none does
+    pub once_in_order : stack.IsDistinct (group groups None) → ((id : ℕ) → Has id (ids_in board None) → stack.IsDistinct (group groups (Some id))) → (at : ℕ) → stack.IsDistinct (get_or groups at [])
+    once_in_order top each zero = top
+    once_in_order top each (suc k) = go (of_id objects (suc k)) refl where
+      go : (f : Option Object) → of_id objects (suc k) ≡ f → stack.IsDistinct (group groups (Some (suc k)))
+      go None e = nothing_twice (group groups (Some (suc k))) (λ x. none_in k x e)
+      go (Some o) e = each (suc k) (reached (suc k) (ap is_some e))
+
     -- where no sibling stands twice, nothing stands twice in the order
     module _ (once : (at : ℕ) → stack.IsDistinct (get_or groups at [])) where
       pub listed_once : IsDistinct (ids_in board None)
@@ -176,12 +200,19 @@ module _ (w h : ℕ) (objects : List (Option Object)) (groups : List (List (ℕ 
       pub members_once : (q : ℕ) → is_there q ≡ true → IsDistinct (ids_in board (Some q))
       members_once q there = nest.stands_once (siblings groups) over is_there known stands members along (λ parent. distinct_ids (group groups parent) (once (place parent))) (length (live objects)) (Some q) there
 
-      pub distinct : AllPairs (λ a b. a ≢ b) (ids_in board None)
-      distinct = nest.all_differ (ids_in board None) listed_once
-
     -- the objects of the order, found by their ids
     abbrev listed : List ℕ → List Object
     listed ids = filter_map (of_id objects) ids
+
+    listed_ids : (xs : List ℕ) → ((x : ℕ) → Has x xs → is_there x ≡ true) → ids (listed xs) ≡ xs
+    listed_ids [] there = refl
+    listed_ids (x ∷ xs) there = go (of_id objects x) refl (there x (inl refl)) (listed_ids xs (λ y h. there y (inr h))) where
+      go : (f : Option Object) → of_id objects x ≡ f → is_some f ≡ true → ids (listed xs) ≡ xs → ids (cons_option f (listed xs)) ≡ x ∷ xs
+      go None e t rest = absurd (true≢false (sym t))
+      go (Some o) e t rest = ap₂ ◌∷◌ (whole.own x o e) rest
+
+    pub order_once : ((at : ℕ) → stack.IsDistinct (get_or groups at [])) → IsDistinct (ids (stage_of board).objects)
+    order_once once = subst IsDistinct (sym (listed_ids (ids_in board None) listed_there)) (listed_once once)
 
     found_among : (ids : List ℕ) (id : ℕ) (o : Object) → of_id objects id ≡ Some o → Has id ids → with_id (listed ids) id ≡ Some o
     found_among [] id o e h = absurd h

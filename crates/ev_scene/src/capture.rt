@@ -1,9 +1,11 @@
 // Scenes as they are captured.
-ghost use Rattle.std.specs.Prelude.{◌≡◌, ◌++◌, IfOk, OnOk, option_to_list};
+ghost use Rattle.std.specs.Prelude.{◌≡◌, ◌++◌, IfOk, OnOk, None, option_to_list};
 ghost use Rattle.ev_model.specs.Stage.{stage, values};
+ghost use Rattle.ev_stack.specs.Order.{IsOrder};
+ghost use Rattle.ev_groups.specs.Groups.{group};
 ghost use Rattle.ev_scene.specs.Slots.{of_id};
-ghost use Rattle.ev_scene.specs.Board.{board, stage_of, values_of};
-ghost use Rattle.ev_scene.specs.Captured.{IsShot};
+ghost use Rattle.ev_scene.specs.Board.{board, stage_of, values_of, ids_in};
+ghost use Rattle.ev_scene.specs.Captured.{IsShot, AreOrders};
 ghost use Rattle.ev_scene.specs.Cast.{IsCast, board_of};
 
 use crate::cast::Cast;
@@ -31,7 +33,7 @@ impl Model for Captured {
 }
 
 impl Captured {
-    /// The scene: its objects in the order in which they are painted.
+    /// The scene: its objects in the order in which they are painted. Their ids differ.
     pub fn scene(&self) -> &Scene
         ensures value { result.now ≡ self.now.scene }
         ensures shot { IsShot self.now }
@@ -39,7 +41,7 @@ impl Captured {
         &self.scene
     }
 
-    /// What is painted of the scene, object by object in their order.
+    /// What is painted of the scene, object by object in their order. Their ids differ.
     pub fn records(&self) -> &[Record]
         ensures value { result.now ≡ self.now.records }
         ensures shot { IsShot self.now }
@@ -76,16 +78,26 @@ impl Cast {
     // Shares of the states of all objects, in the order in which they are painted.
     fn shares(&self) -> Result<Objects, NoMemory>
         requires { IsCast self.now }
-        ensures { IfOk result (λ objects. values objects ≡ (stage_of (board_of self.now)).objects) }
+        ensures objects { IfOk result (λ objects. values objects ≡ (stage_of (board_of self.now)).objects) }
+        ensures orders { IfOk result (λ objects. AreOrders self.now.groups (ids_in (board_of self.now) None)) }
     {
         let alloc = self.roll.alloc();
         let mut ids = Vec::new(alloc);
         self.groups.collect(&mut ids, None, self.roll.len())?;
         let mut objects = Objects::new(alloc);
+        self.tell_order(None);
         for id in &ids {
+            self.tell_order(Some(*id));
             self.push_share(&mut objects, *id)?;
         }
         Ok(objects)
+    }
+
+    // Who stand together in an object are an order: their group knows it, and tells it here.
+    fn tell_order(&self, parent: Option<u64>)
+        ensures { IsOrder (group self.now.groups parent) }
+    {
+        let _members = self.groups.group(parent).len();
     }
 
     // Puts a share of the state of an id on top, if an object has that id.

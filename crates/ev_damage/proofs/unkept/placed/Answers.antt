@@ -1,0 +1,6 @@
+use Rattle.ev_damage.proofs.Gathering.{placed_step}
+use Rattle.ev_damage.proofs.unkept.placed.Goals as goal
+
+pub loop-i-preserved : goal.loop-i-preserved
+loop-i-preserved c = λ others all.
+    placed_step others c.args.records.now c.args.places.now c.loop-i.i c.index-records-i.result _ _ _ (c.loop-i.invariant others all) all c.loop-i-test.true c.index-records-i.is c.in_ok-push_placed.ensures
