@@ -44,17 +44,17 @@ pub not_pushed : (states : List (Option (Held Object))) (objects : List (Held Ob
 not_pushed states objects id none =
     sym (nothing_more (values objects)) ∙ ap (λ x. values objects ++ option_to_list x) (sym (of_id_map value_of states id ∙ ap (option_map value_of) (sym none)))
 
--- what keeps its limits wherever it stands keeps them in a list
-pub limits_in_order : (objects : List (Option Object)) (ids : List ℕ) → ((id : ℕ) (o : Object) → of_id objects id ≡ Some o → IsObject o) → All IsObject (filter_map (of_id objects) ids)
-limits_in_order objects [] limits = λ k d h. absurd (omega (arith, h))
-limits_in_order objects (id ∷ ids) limits = go (of_id objects id) refl (limits_in_order objects ids limits) where
-  with_first : (o : Object) (rest : List Object) → IsObject o → All IsObject rest → All IsObject (o ∷ rest)
+-- what holds of each object that is there holds of those of some ids
+pub holds_in_order : (H : Object → Type 0) (objects : List (Option Object)) (ids : List ℕ) → ((id : ℕ) (o : Object) → of_id objects id ≡ Some o → H o) → All H (filter_map (of_id objects) ids)
+holds_in_order H objects [] holds = λ k d h. absurd (omega (arith, h))
+holds_in_order H objects (id ∷ ids) holds = go (of_id objects id) refl (holds_in_order H objects ids holds) where
+  with_first : (o : Object) (rest : List Object) → H o → All H rest → All H (o ∷ rest)
   with_first o rest first others zero d h = first
   with_first o rest first others (suc k) d h = others k d (omega (arith, h))
 
-  go : (x : Option Object) → of_id objects id ≡ x → All IsObject (filter_map (of_id objects) ids) → All IsObject (cons_option x (filter_map (of_id objects) ids))
+  go : (x : Option Object) → of_id objects id ≡ x → All H (filter_map (of_id objects) ids) → All H (cons_option x (filter_map (of_id objects) ids))
   go None e rest = rest
-  go (Some o) e rest = with_first o (filter_map (of_id objects) ids) (limits id o e) rest
+  go (Some o) e rest = with_first o (filter_map (of_id objects) ids) (holds id o e) rest
 
 pub are_objects : (states : List (Held Object)) → All IsObject (values states) → AreObjects states
 are_objects [] limits = λ k d h. absurd (omega (arith, h))

@@ -21,4 +21,5 @@ pub mod Deleting
 pub mod Verdicts
 pub mod Rehoming
 pub mod Loading
+pub mod Giving
 pub mod Bounding

@@ -4,6 +4,7 @@ pub mod Board
 pub mod Change
 pub mod Edits
 pub mod Loads
+pub mod Given
 pub mod Captured
 pub mod Roll
 pub mod Whole

@@ -8,6 +8,7 @@ mod delete;
 mod drawing;
 mod edit;
 mod label;
+mod laws;
 mod linking;
 mod loads;
 mod roll;
@@ -21,5 +22,6 @@ mod writing;
 
 pub use capture::Captured;
 pub use edit::MAX_OBJECTS;
+pub use laws::{edits_bring_no_loads, fonts_come_alone, images_come_alone, stages_bring_no_loads};
 pub use scene_box::SceneBox;
 pub use std::alloc::AllocError as NoMemory;

@@ -11,7 +11,7 @@ use Rattle.ev_scene.specs.Slots.{of_id}
 use Rattle.ev_scene.specs.Board.{values_of, ids_in}
 use Rattle.ev_scene.specs.Cast.{board_of}
 use Rattle.ev_scene.proofs.Bounding.{records_lie}
-use Rattle.ev_scene.proofs.Capturing.{are_objects, limits_in_order}
+use Rattle.ev_scene.proofs.Capturing.{are_objects, holds_in_order}
 use Rattle.ev_scene.proofs.Differing.{looks_differ}
 use Rattle.ev_scene.proofs.Nesting.{all_differ}
 use Rattle.ev_scene.proofs.Trees.{order_found, ways, once_in_order, order_once}
@@ -41,7 +41,7 @@ invariant_of-result c =
       w_high = c.requires.w_high;
       h_low = c.requires.h_low;
       h_high = c.requires.h_high;
-      objects = are_objects c.in_ok-objects.objects (subst P (sym (c.in_ok-objects.ensures).objects) (limits_in_order (values_of c.args.self.now.roll.states) (ids_in (board_of c.args.self.now) None) c.requires.limits));
+      objects = are_objects c.in_ok-objects.objects (subst P (sym (c.in_ok-objects.ensures).objects) (holds_in_order IsObject (values_of c.args.self.now.roll.states) (ids_in (board_of c.args.self.now) None) c.requires.limits));
       distinct = all_differ _ once;
       looks = (c.in_ok-records.ensures);
       apart = subst (λ looks. AllPairs (λ a b. a ≢ b) (map (λ l. l.id) looks)) (sym c.in_ok-records.ensures) (looks_differ seen once);
