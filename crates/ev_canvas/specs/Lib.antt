@@ -1,0 +1,10 @@
+pub mod Starts
+pub mod Frames
+pub mod Events
+pub mod Loading
+pub mod Chain
+pub mod Totals
+pub mod Machine
+pub mod Commands
+pub mod Ledger
+pub mod Canvas
