@@ -3,6 +3,7 @@ pub mod Pieces
 pub mod Reading
 pub mod Counting
 pub mod Turns
+pub mod Rendering
 pub mod Playing
 pub mod Orders
 pub mod Loading

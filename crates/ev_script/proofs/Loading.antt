@@ -1,8 +1,10 @@
 -- Loads that a line begins and ends.
-use Rattle.std.proofs.Common.{◌≡◌, ℕ, ◌+◌, ◌<◌, ◌≤◌, ◌⊎◌, inl, inr, arith, List, [], ◌∷◌, ◌++◌, Bool, true, false, cond, Option, Some, None, Result, Ok, Err, refl, ap, ap₂, subst, sym, ◌∙◌}
-use Rattle.std.specs.Option.{option_map, option_and_then}
+use Rattle.std.proofs.Common.{◌≡◌, ℕ, ◌+◌, ◌<◌, ◌≤◌, ◌⊎◌, inl, inr, arith, List, [], ◌∷◌, ◌++◌, Bool, true, false, cond, ◌==◌, Option, Some, None, Result, Ok, Err, refl, ap, ap₂, subst, sym, ◌∙◌}
+use Rattle.std.proofs.Math.Bool.{true≢false}
+use Rattle.std.proofs.lemmas.Bool.Decides.{nat_tests}
+use Rattle.std.proofs.lemmas.Option.{same_Some}
+use Rattle.std.specs.Result.{is_ok}
 use Rattle.ev_port.specs.Causes.{RoseBy, rose_by_none}
-use Rattle.ev_port.specs.Told.{grows_by_none}
 use Rattle.ev_port.specs.Frame.{Frame}
 use Rattle.ev_port.specs.declared.file.StoredFile.{StoredFile}
 use Rattle.ev_image.specs.declared.fault.BadImage.{BadImage}
@@ -19,27 +21,25 @@ use Rattle.ev_model.specs.declared.refusal.LoadFault.{LoadFault}
 use Rattle.ev_model.specs.declared.refusal.Refusal.{Refusal}
 use Rattle.ev_model.specs.declared.refusal.Refusal.TheVariants as refusal
 use Rattle.ev_lang.specs.declared.line.Line.TheVariants as line
-use Rattle.ev_scene.specs.Board.{Board, board, named, is_named}
-use Rattle.ev_scene.specs.Slots.{of_id, live}
+use Rattle.ev_scene.specs.Board.{Board, board, named}
 use Rattle.ev_scene.specs.Loads.{key_of}
 use Rattle.ev_preload.specs.Job.{Job, is_loadable}
 use Rattle.ev_preload.specs.Ends.{EndsBy, IsOfKind, HasCounts}
 use Rattle.ev_preload.specs.Faults.{image_fault, font_fault, fault_of}
-use Rattle.ev_preload.specs.Loads.{Loads, begun_job, FitsKind}
+use Rattle.ev_preload.specs.Loads.{Loads, begun_job, FitsKind, hold, collected, without, after_begin, after_hold, after_collect}
+use Rattle.ev_preload.specs.declared.preload.Preload.{Preload}
 use Rattle.ev_preload.specs.declared.end.LoadEnd.{LoadEnd}
 use Rattle.ev_preload.specs.declared.end.LoadEnd.TheVariants as ended
-use Rattle.ev_script.specs.declared.session.Session.{Session}
-use Rattle.ev_script.specs.Loads.{asked, asked_of, none_running, taken, told_fault, told_end, Takes}
-use Rattle.ev_script.specs.Machine.{State, Turn, Ends, Loaded, stays, loaded, shown, store_failures, lost_frames}
+use Rattle.ev_canvas.specs.Canvas.{Parts}
+use Rattle.ev_canvas.specs.Events.{event_of, first_event, later_events}
+use Rattle.ev_canvas.specs.Loading.{asked, asked_of, taken, EndsSo, Takes, Collects}
+use Rattle.ev_canvas.specs.Machine.{State, Turn, Ends, Loaded, stays, loaded, told_fault, none_running}
+use Rattle.ev_canvas.specs.declared.event.Event.{Event}
+use Rattle.ev_script.specs.Loads.{told_event}
+use Rattle.ev_script.specs.Machine.{store_failures, lost_frames}
 use Rattle.ev_script.specs.Outside.{outside}
-use Rattle.ev_script.specs.Session.{ShowsNewest, StandsFor, Carried}
-use Rattle.ev_script.proofs.Turns.{stayed, one_text}
-use Rattle.std.specs.List.{find}
-use Rattle.std.proofs.lemmas.List.{append-nil}
-use Rattle.std.proofs.lemmas.Option.{none-some, same_Some}
-use Rattle.std.proofs.Math.Bool.{true≢false}
-use Rattle.std.specs.Result.{is_ok}
-use Rattle.std.proofs.lemmas.Slice.Eq.{bytes_eq-Decides}
+use Rattle.ev_script.specs.Session.{StandsFor, Carried}
+use Rattle.ev_script.proofs.Turns.{turned, stayed, one_text}
 
 -- an end that is of an object's kind fits it
 pub fits : (kind : Kind) (end : LoadEnd) → IsOfKind kind end → FitsKind kind end
@@ -71,6 +71,10 @@ font_counts_none name (font.Long at) = refl
 font_counts_none name (font.Bits glyph) = refl
 font_counts_none name font.NoMemory = refl
 
+-- what is told of the end of a load
+abbrev told_end : List ℕ → LoadEnd → Answer
+told_end name end = told_fault name (fault_of end)
+
 -- where an end tells that the store failed, it did
 fails_once : (name : List ℕ) (end : LoadEnd) (before now : ℕ) → before ≤ now → HasCounts before now end → RoseBy (store_failures (told_end name end ∷ [])) before now
 fails_once name (ended.Done image) before now later counts = rose_by_none before now later
@@ -87,76 +91,104 @@ loses_none : (name : List ℕ) (fault : Option LoadFault) → lost_frames (told_
 loses_none name None = refl
 loses_none name (Some fault) = refl
 
+-- what an event tells
+event_tells : (name : List ℕ) (fault : Option LoadFault) → told_event (event_of name fault) ≡ told_fault name fault
+event_tells name None = refl
+event_tells name (Some fault) = refl
+
 -- want of memory may always come
 may_want : (files : Option (List StoredFile)) (key : List ℕ) (kind : Kind) → EndsBy files key kind ended.NoMemory
 may_want None key kind = tt
 may_want (Some files) key kind = tt
 
--- an end that was taken, or want of memory in its place, ends the load as the files say
+-- an end by the files
 pub record Ended (files : Option (List StoredFile)) (job : Job) (before now : ℕ) (end : LoadEnd) : Type 0 where
   pub by_files : EndsBy files job.key job.kind end
   pub of_kind : IsOfKind job.kind end
   pub counts : HasCounts before now end
 
-ended_so : (files : Option (List StoredFile)) (job : Job) (before now : ℕ) (came end : LoadEnd) → (end ≡ came) ⊎ (end ≡ ended.NoMemory) → Ended files job before now came → Ended files job before now end
-ended_so files job before now came end (inl is) ends = subst (λ e. Ended files job before now e) (sym is) ends
-ended_so files job before now came end (inr is) ends = subst (λ e. Ended files job before now e) (sym is) (record { by_files = may_want files job.key job.kind; of_kind = tt; counts = tt })
+wanted : (files : Option (List StoredFile)) (job : Job) (before now : ℕ) (came end : LoadEnd) → (end ≡ came) ⊎ (end ≡ ended.NoMemory) → Ended files job before now came → Ended files job before now end
+wanted files job before now came end (inl is) ends = subst (λ e. Ended files job before now e) (sym is) ends
+wanted files job before now came end (inr is) ends = subst (λ e. Ended files job before now e) (sym is) (record { by_files = may_want files job.key job.kind; of_kind = tt; counts = tt })
+
+-- an end that was taken is one by the files as well
+ended_so : (files : Option (List StoredFile)) (job : Job) (before now : ℕ) (came end : LoadEnd) → EndsSo came end → Ended files job before now came → Ended files job before now end
+ended_so files job before now (ended.Done image) end is ends = wanted files job before now (ended.Done image) end is ends
+ended_so files job before now (ended.Font font) end is ends = wanted files job before now (ended.Font font) end is ends
+ended_so files job before now ended.Missing end is ends = wanted files job before now ended.Missing end (inl is) ends
+ended_so files job before now ended.TooLarge end is ends = wanted files job before now ended.TooLarge end (inl is) ends
+ended_so files job before now (ended.BadImage fault) end is ends = wanted files job before now (ended.BadImage fault) end (inl is) ends
+ended_so files job before now (ended.BadFont fault) end is ends = wanted files job before now (ended.BadFont fault) end (inl is) ends
+ended_so files job before now (ended.Failed first last) end is ends = wanted files job before now (ended.Failed first last) end (inl is) ends
+ended_so files job before now ended.NoMemory end is ends = wanted files job before now ended.NoMemory end (inl is) ends
 
 -- a load that was refused
-pub load_refused : (Wrote : Option (List ℕ) → Option (List ℕ) → List ℕ → Type 0) (files : Option (List StoredFile)) (state : State) (n : ℕ) (name : List ℕ) (cause : Refusal) (log log' : Option (List ℕ)) (screen : Option (List Frame)) (faults store_faults : ℕ) (old new : Session) → StandsFor old state → Err cause ≡ asked (board old.scene) old.preloads name → new ≡ old → Wrote log log' (reply_text (Refused cause n)) → Carried Wrote files n (line.Command (command.Load name)) (outside log screen faults store_faults) (outside log' screen faults store_faults) state new
-load_refused Wrote files state n name cause log log' screen faults store_faults old new stands is same wrote =
+pub load_refused : (Wrote : Option (List ℕ) → Option (List ℕ) → List ℕ → Type 0) (cell : ℕ) (files : Option (List StoredFile)) (state : State) (n : ℕ) (name : List ℕ) (cause : Refusal) (log log' : Option (List ℕ)) (screen : Option (List Frame)) (faults store_faults : ℕ) (old new : Parts) → StandsFor old state → Err cause ≡ asked (board old.scene) old.loads name → new ≡ old → Wrote log log' (reply_text (Refused cause n)) → Carried Wrote cell files n (line.Command (command.Load name)) (outside log screen faults store_faults) (outside log' screen faults store_faults) state new
+load_refused Wrote cell files state n name cause log log' screen faults store_faults old new stands is same wrote =
     let here : asked state.scene (none_running state.begun) name ≡ Err cause = sym (is ∙ ap₂ (λ s ls. asked s ls name) stands.scene stands.loads) in
-    stayed Wrote files state n (line.Command (command.Load name)) log log' screen faults store_faults new (Refused cause n ∷ []) (subst (λ s. StandsFor s state) (sym same) stands) (subst (λ answer. Loaded files state n answer (stays state (Refused cause n ∷ []))) (sym here) refl) refl refl (one_text Wrote log log' (Refused cause n) wrote)
+    stayed Wrote cell files state n (line.Command (command.Load name)) log log' screen faults store_faults new (Refused cause n ∷ []) (subst (λ c. StandsFor c state) (sym same) stands) (subst (λ answer. Loaded files state n answer (stays state (Refused cause n ∷ []))) (sym here) refl) refl refl (one_text Wrote log log' (Refused cause n) wrote)
 
--- a load that began and ended
-pub load_ended : (Wrote : Option (List ℕ) → Option (List ℕ) → List ℕ → Type 0) (files : Option (List StoredFile)) (state : State) (n : ℕ) (name called : List ℕ) (job : Job) (came : LoadEnd) (fault : Option LoadFault) (log log' : Option (List ℕ)) (screen : Option (List Frame)) (faults before now : ℕ) (old new : Session) → StandsFor old state → Ok job ≡ asked (board old.scene) old.preloads name → Ended files job before now came → before ≤ now → Takes (board old.scene) (board new.scene) job came fault → new.frames ≡ old.frames → new.picture ≡ old.picture → new.preloads ≡ none_running job.number → called ≡ job.name → Wrote log log' (reply_text (told_fault called fault)) → Carried Wrote files n (line.Command (command.Load name)) (outside log screen faults before) (outside log' screen faults now) state new
-load_ended Wrote files state n name called job came fault log log' screen faults before now old new stands is ends later takes frames picture loads same_name wrote =
+-- a load that began and ended, and what it changed
+pub record Collected (old new : Parts) (job : Job) (came : LoadEnd) (event : Event) : Type 0 where
+  pub fault : Option LoadFault
+  pub takes : Takes (board old.scene) (board new.scene) job came fault
+  pub event_is : event ≡ event_of job.name fault
+  pub frames : new.frames ≡ old.frames
+  pub loads : new.loads ≡ none_running (old.loads.begun + 1)
+
+-- a number is itself
+same_number : (k : ℕ) → (k == k) ≡ true
+same_number k = grind (arith, nat_tests)
+
+-- the end that comes for the only preload is held for it, and collected
+hold_one : (job : Job) (end : LoadEnd) → hold (record { job = job; end = None } ∷ []) job.number end ≡ record { job = job; end = Some end } ∷ []
+hold_one job end = rw (same_number job.number) refl
+
+collected_one : (job : Job) (end : LoadEnd) → collected (record { job = job; end = Some end } ∷ []) job.number ≡ Some (job, end)
+collected_one job end = rw (same_number job.number) refl
+
+without_one : (job : Job) (end : LoadEnd) → without (record { job = job; end = Some end } ∷ []) job.number ≡ []
+without_one job end = rw (same_number job.number) refl
+
+-- a load that began where none ran, whose end was held and collected, and whose event was taken
+pub load_collected : (old begun held ended_canvas new : Parts) (job : Job) (n m : ℕ) (end : LoadEnd) (event : Event) → old.loads.running ≡ [] → begun ≡ record old { loads = after_begin old.loads (Ok job) } → held ≡ record begun { loads = after_hold begun.loads n end } → n ≡ job.number → m ≡ job.number → ended_canvas.loads ≡ after_collect held.loads m → Collects (collected held.loads.running m) (board held.scene) (board ended_canvas.scene) ended_canvas.events → ended_canvas.frames ≡ held.frames → Some event ≡ first_event ended_canvas.events → new ≡ record ended_canvas { events = later_events ended_canvas.events } → Collected old new job end event
+load_collected old begun held ended_canvas new job n m end event none begun_is held_is n_is m_is loads collects frames event_is new_is =
+    let first : Loads = record { running = record { job = job; end = None } ∷ []; begun = old.loads.begun + 1 } in
+    let one : Loads = record { running = record { job = job; end = Some end } ∷ []; begun = old.loads.begun + 1 } in
+    let add : List Preload → Loads = λ running. record { running = running ++ record { job = job; end = None } ∷ []; begun = old.loads.begun + 1 } in
+    let keep : List Preload → Loads = λ running. record { running = running; begun = old.loads.begun + 1 } in
+    let begun_loads : begun.loads ≡ first = ap (λ c. c.loads) begun_is ∙ ap add none in
+    let held_loads : held.loads ≡ one = ap (λ c. c.loads) held_is ∙ ap₂ (λ ls k. after_hold ls k end) begun_loads n_is ∙ ap keep (hold_one job end) in
+    let held_scene : held.scene ≡ old.scene = ap (λ c. c.scene) held_is ∙ ap (λ c. c.scene) begun_is in
+    let found : collected held.loads.running m ≡ Some (job, end) = ap₂ (λ ls k. collected ls.running k) held_loads m_is ∙ collected_one job end in
+    let taken_so = subst (λ x. Collects x (board held.scene) (board ended_canvas.scene) ended_canvas.events) found collects in
+    let events : ended_canvas.events ≡ event_of job.name taken_so.0 ∷ [] = taken_so.2 in
+    record {
+      fault = taken_so.0;
+      takes = subst (λ c. Takes (board old.scene) (board c) job end taken_so.0) (sym (ap (λ c. c.scene) new_is)) (subst (λ c. Takes (board c) (board ended_canvas.scene) job end taken_so.0) held_scene taken_so.1);
+      event_is = same_Some event (event_of job.name taken_so.0) (event_is ∙ ap first_event events);
+      frames = ap (λ c. c.frames) new_is ∙ frames ∙ ap (λ c. c.frames) held_is ∙ ap (λ c. c.frames) begun_is;
+      loads = ap (λ c. c.loads) new_is ∙ loads ∙ ap₂ after_collect held_loads m_is ∙ ap keep (without_one job end);
+    }
+
+pub load_ended : (Wrote : Option (List ℕ) → Option (List ℕ) → List ℕ → Type 0) (cell : ℕ) (files : Option (List StoredFile)) (state : State) (n : ℕ) (name : List ℕ) (job : Job) (came : LoadEnd) (event : Event) (log log' : Option (List ℕ)) (screen : Option (List Frame)) (faults before now : ℕ) (old new : Parts) → StandsFor old state → Ok job ≡ asked (board old.scene) old.loads name → job.number ≡ old.loads.begun + 1 → Ended files job before now came → before ≤ now → Collected old new job came event → Wrote log log' (reply_text (told_event event)) → Carried Wrote cell files n (line.Command (command.Load name)) (outside log screen faults before) (outside log' screen faults now) state new
+load_ended Wrote cell files state n name job came event log log' screen faults before now old new stands is number ends later collected wrote =
     let here : asked state.scene (none_running state.begun) name ≡ Ok job = sym (is ∙ ap₂ (λ s ls. asked s ls name) stands.scene stands.loads) in
+    let begun : old.loads.begun ≡ state.begun = ap (λ ls. ls.begun) stands.loads in
+    let takes = collected.takes in
     let end = takes.end in
     let so = ended_so files job before now came end takes.is ends in
     let turn : Turn = loaded state job end in
-    let step : Ends files state job turn = record { end = end; by_files = so.by_files; of_kind = so.of_kind; is = refl } in
-    let told : told_fault called fault ≡ told_end job.name end = ap₂ told_fault same_name takes.told in
-    record {
-      turn = turn;
-      step = subst (λ answer. Loaded files state n answer turn) (sym here) step;
-      stands = record {
-        scene = takes.changes ∙ ap (λ s. taken s job end) stands.scene;
-        frames = frames ∙ stands.frames;
-        picture = subst (λ p. ShowsNewest p state.starts) (sym picture) stands.picture;
-        loads = loads;
-      };
-      log_grows = one_text Wrote log log' (told_end job.name end) (subst (λ reply. Wrote log log' (reply_text reply)) told wrote);
-      frames = [];
-      shown_grows = sym (append-nil (shown state.starts));
-      screen_grows = grows_by_none screen;
-      losses = subst (λ k. RoseBy k faults faults) (sym (loses_none job.name (fault_of end))) (rose_by_none faults faults (omega arith));
-      failures = fails_once job.name end before now later so.counts;
-    }
-
--- what a search finds passes its test
-found_passes : {A : Type 0} (test : A → Bool) (xs : List A) (x : A) → find test xs ≡ Some x → test x ≡ true
-found_passes test [] x is = absurd (none-some x is)
-found_passes test (y ∷ ys) x is = by (test y) refl is (found_passes test ys x)
-  where
-    by : (b : Bool) → test y ≡ b → cond b (Some y) (find test ys) ≡ Some x → (find test ys ≡ Some x → test x ≡ true) → test x ≡ true
-    by true passes is later = ap test (sym (same_Some y x is)) ∙ passes
-    by false fails is later = later is
-
--- what is asked for an object by what it is
-asks_of : (loads : Loads) (x : Option Object) (id : ℕ) (name : List ℕ) (kind : Kind) (key : Option (List ℕ)) → Some id ≡ option_map (λ o. o.id) x → Some kind ≡ option_map (λ o. kind_of o.content) x → key ≡ option_and_then (λ o. key_of o.content) x → ((o : Object) → x ≡ Some o → o.name ≡ name) → is_loadable kind ≡ true → begun_job loads id name kind key ≡ asked_of loads x
-asks_of loads None id name kind key id_is kind_is key_is named_so loadable = absurd (none-some id (sym id_is))
-asks_of loads (Some o) id name kind key id_is kind_is key_is named_so loadable =
-    let kind_here : kind ≡ kind_of o.content = same_Some kind (kind_of o.content) kind_is in
-    let same : begun_job loads id name kind key ≡ begun_job loads o.id o.name (kind_of o.content) (key_of o.content) =
-    ap₂ (λ i n. begun_job loads i n kind key) (same_Some id o.id id_is) (sym (named_so o refl)) ∙ ap₂ (λ k file. begun_job loads o.id o.name k file) kind_here key_is in
-    same ∙ ap (λ b. cond b (begun_job loads o.id o.name (kind_of o.content) (key_of o.content)) (Err refusal.Kind)) (sym (sym (ap is_loadable kind_here) ∙ loadable))
-
--- the same for the object that a name finds
-pub asks : (loads : Loads) (objects : List (Option Object)) (id : ℕ) (name : List ℕ) (kind : Kind) (key : Option (List ℕ)) → Some id ≡ option_map (λ o. o.id) (named objects name) → of_id objects id ≡ named objects name → Some kind ≡ option_map (λ o. kind_of o.content) (of_id objects id) → key ≡ option_and_then (λ o. key_of o.content) (of_id objects id) → is_loadable kind ≡ true → begun_job loads id name kind key ≡ asked_of loads (named objects name)
-asks loads objects id name kind key id_is there kind_is key_is loadable =
-    asks_of loads (named objects name) id name kind key id_is (kind_is ∙ ap (option_map (λ o. kind_of o.content)) there) (key_is ∙ ap (option_and_then (λ o. key_of o.content)) there)
-    (λ o is. (bytes_eq-Decides o.name name).0 (found_passes (is_named name) (live objects) o is)) loadable
+    let step : Ends files state job turn = record { end = end; by_files = so.by_files; of_kind = so.of_kind; number = number ∙ ap (λ k. k + 1) begun; is = refl } in
+    let told : told_event event ≡ told_end job.name end = ap told_event collected.event_is ∙ event_tells job.name collected.fault ∙ ap (told_fault job.name) takes.told in
+    turned Wrote cell files state n (line.Command (command.Load name)) log log' screen faults before now new turn refl (record {
+      scene = takes.changes ∙ ap (λ s. taken s job end) stands.scene;
+      given = ap (λ f. f.given) collected.frames ∙ stands.given;
+      areas = ap (λ f. f.areas) collected.frames ∙ stands.areas;
+      count = ap (λ f. f.count) collected.frames ∙ stands.count;
+      newest = ap (λ f. f.newest) collected.frames ∙ stands.newest;
+      loads = collected.loads ∙ ap (λ k. none_running (k + 1)) begun;
+    }) (subst (λ answer. Loaded files state n answer turn) (sym here) step) (loses_none job.name (fault_of end)) (fails_once job.name end before now later so.counts) (one_text Wrote log log' (told_end job.name end) (subst (λ reply. Wrote log log' (reply_text reply)) told wrote))
 
 -- a choice that gives a job took the way that may
 ok_first : (b : Bool) (job : Job) (y : Result Job Refusal) (cause : Refusal) → Ok job ≡ cond b y (Err cause) → Ok job ≡ y

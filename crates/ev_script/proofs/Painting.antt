@@ -1,12 +1,20 @@
--- The rows and pixels of a redrawn picture.
-use Rattle.std.proofs.Common.{◌≡◌, ℕ, zero, suc, ◌+◌, ◌<◌, List, [], ◌∷◌, ◌++◌, map, length, get_or, take, drop, set, refl, sym, ap, ap₂, ◌∙◌, arith, add-one}
+-- The places of a picture, part of which may be hidden.
+use Rattle.std.proofs.Common.{◌≡◌, ℕ, zero, suc, ◌+◌, ◌<◌, pos, List, [], ◌∷◌, ◌++◌, map, length, get_or, Option, Some, None, cond, refl, sym, ap, ap₂, ◌∙◌, arith}
 use Rattle.std.specs.List.{range_with_len, flat_map}
-use Rattle.ev_argb.specs.Argb.{Argb}
+use Rattle.std.proofs.lemmas.List.FromFn.{get_or-map-range_with_len, length-map-range_with_len}
+use Rattle.ev_argb.specs.Argb.{Argb, clear}
 use Rattle.ev_argb.specs.Grid.{Grid, pixel_at, row_of}
-use Rattle.ev_port.specs.Frame.{pixels_of}
-use Rattle.ev_model.specs.Stage.{Stage}
-use Rattle.ev_model.specs.Paint.{paint, redrawn, IsRedrawn}
-use Rattle.ev_script.specs.Machine.{painted_row}
+use Rattle.ev_geom.specs.Area.{Area}
+use Rattle.ev_geom.specs.Bands.{has_pixel}
+use Rattle.ev_model.specs.Answer.{Answer, DumpRow, Refused}
+use Rattle.ev_model.specs.Paint.{IsRedrawn, paint}
+use Rattle.ev_model.specs.declared.refusal.Refusal.TheVariants.{NoFrame}
+use Rattle.ev_canvas.specs.Starts.{Entry, Latest}
+use Rattle.ev_canvas.specs.Totals.{totals}
+use Rattle.ev_canvas.specs.Machine as machine
+use Rattle.ev_canvas.specs.Machine.{State, stays, printed}
+use Rattle.ev_script.specs.Machine.{lost_frames, store_failures}
+use Rattle.ev_script.specs.Places.{unhidden, unhidden_row, place_row, places}
 
 -- two functions that agree below a bound make the same list of a range below it
 pub same_map : {A : Type 0} (f g : ℕ → A) (from count bound : ℕ) → from + count ≡ bound → ((k : ℕ) → k < bound → f k ≡ g k) → map f (range_with_len from count) ≡ map g (range_with_len from count)
@@ -20,29 +28,40 @@ same_flat_map f g from zero bound e same = refl
 same_flat_map f g from (suc count) bound e same =
     ap₂ ◌++◌ (same from (omega arith)) (same_flat_map f g (from + 1) count bound (omega arith) same)
 
--- the rows of a redrawn picture are those of the redraw
-pub same_row : (stage : Stage) (grid : Grid) (y : ℕ) → IsRedrawn stage grid → y < stage.h → row_of grid y ≡ painted_row stage y
-same_row stage grid y drawn below =
-    ap (λ w. map (λ x. pixel_at grid x y) (range_with_len 0 w)) drawn.width
-    ∙ same_map (λ x. pixel_at grid x y) (λ x. paint stage x y) 0 stage.w stage.w (omega arith) (λ x inside. drawn.pixels x y inside below)
+-- the places of a row of pixels are those of the picture's row
+pub row_places : (hidden : List Area) (grid : Grid) (y : ℕ) → unhidden_row hidden y (row_of grid y) ≡ place_row hidden grid y
+row_places hidden grid y =
+    ap (λ w. map (λ x. unhidden hidden x y (get_or (row_of grid y) x clear)) (range_with_len 0 w)) (length-map-range_with_len (λ x. pixel_at grid x y) 0 grid.w)
+    ∙ same_map (λ x. unhidden hidden x y (get_or (row_of grid y) x clear)) (λ x. unhidden hidden x y (pixel_at grid x y)) 0 grid.w grid.w (omega arith)
+    (λ x inside. ap (unhidden hidden x y) (get_or-map-range_with_len (λ x. pixel_at grid x y) 0 grid.w x x clear inside (omega arith)))
 
--- and so are its pixels
-pub same_pixels : (stage : Stage) (grid : Grid) → IsRedrawn stage grid → pixels_of grid ≡ redrawn stage
-same_pixels stage grid drawn =
-    ap (λ h. flat_map (row_of grid) (range_with_len 0 h)) drawn.height
-    ∙ same_flat_map (row_of grid) (painted_row stage) 0 stage.h stage.h (omega arith) (λ y below. same_row stage grid y drawn below)
+-- the rows of a redrawn picture are those of the start that it shows
+same_row : (entry : Entry) (grid : Grid) (y : ℕ) → IsRedrawn entry.stage grid → y < entry.stage.h → place_row entry.hidden grid y ≡ machine.place_row entry y
+same_row entry grid y drawn below =
+    ap (λ w. map (λ x. unhidden entry.hidden x y (pixel_at grid x y)) (range_with_len 0 w)) drawn.width
+    ∙ same_map (λ x. unhidden entry.hidden x y (pixel_at grid x y)) (λ x. machine.place entry x y) 0 entry.stage.w entry.stage.w (omega arith)
+    (λ x inside. ap (unhidden entry.hidden x y) (drawn.pixels x y inside below))
 
--- the store at place i of a list that is filled from the left
-store : {X Y : Type 0} (f : X → Y) (xs : List X) (ys : List Y) (i : ℕ) (d : X) → i < length ys → length ys ≡ length xs → set (map f (take i xs) ++ drop i ys) i (f (get_or xs i d)) ≡ map f (take (suc i) xs) ++ drop (suc i) ys
-store f [] [] i d below same = absurd (omega arith)
-store f (x ∷ xs) [] i d below same = absurd (omega arith)
-store f [] (y ∷ ys) i d below same = absurd (omega arith)
-store f (x ∷ xs) (y ∷ ys) zero d below same = refl
-store f (x ∷ xs) (y ∷ ys) (suc i) d below same = ap (λ zs. f x ∷ zs) (store f xs ys i d (omega arith) (omega arith))
+-- the rows that a dump prints
+abbrev pub picture_rows : List Area → Grid → List Answer
+picture_rows hidden grid = map (λ y. DumpRow (place_row hidden grid y)) (range_with_len 0 grid.h)
 
--- a loop that fills a list with f of each of xs
-pub map_over_more : {X Y : Type 0} (f : X → Y) (xs : List X) (ys zs : List Y) (i : ℕ) (x : X) → i < length ys → length ys ≡ length xs → zs ≡ map f (take i xs) ++ drop i ys → x ≡ get_or xs i x → set zs i (f x) ≡ map f (take (i + 1) xs) ++ drop (i + 1) ys
-map_over_more f xs ys zs i x below same at is =
-    let w = store f xs ys i x below same in
-    let n = add-one i in
-    cc
+pub same_rows : (entry : Entry) (grid : Grid) → IsRedrawn entry.stage grid → picture_rows entry.hidden grid ≡ machine.rows entry
+same_rows entry grid drawn =
+    ap (λ h. map (λ y. DumpRow (place_row entry.hidden grid y)) (range_with_len 0 h)) drawn.height
+    ∙ same_map (λ y. DumpRow (place_row entry.hidden grid y)) (λ y. DumpRow (machine.place_row entry y)) 0 entry.stage.h entry.stage.h (omega arith) (λ y below. ap DumpRow (same_row entry grid y drawn below))
+
+pub same_sums : (entry : Entry) (grid : Grid) → IsRedrawn entry.stage grid → totals (places entry.hidden grid) ∷ [] ≡ machine.sums entry
+same_sums entry grid drawn = ap (λ ps. totals ps ∷ []) (
+    ap (λ h. flat_map (place_row entry.hidden grid) (range_with_len 0 h)) drawn.height
+    ∙ same_flat_map (place_row entry.hidden grid) (machine.place_row entry) 0 entry.stage.h entry.stage.h (omega arith) (λ y below. same_row entry grid y drawn below))
+
+-- no row tells of a lost frame
+pub rows_lose_none : (row : ℕ → List (Option Argb)) (ys : List ℕ) → lost_frames (map (λ y. DumpRow (row y)) ys) ≡ 0
+rows_lose_none row [] = refl
+rows_lose_none row (y ∷ ys) = omega (arith, rows_lose_none row ys)
+
+-- nor of a load that failed
+pub rows_fail_none : (row : ℕ → List (Option Argb)) (ys : List ℕ) → store_failures (map (λ y. DumpRow (row y)) ys) ≡ 0
+rows_fail_none row [] = refl
+rows_fail_none row (y ∷ ys) = omega (arith, rows_fail_none row ys)

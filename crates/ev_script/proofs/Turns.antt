@@ -1,222 +1,270 @@
--- Turns of the machine, from what a session did.
-use Rattle.std.proofs.Common.{pos, ◌≡◌, ℕ, suc, ◌+◌, ◌<◌, ◌≤◌, arith, List, [], ◌∷◌, ◌++◌, length, map, Bool, true, false, Option, Some, None, refl, ap, ap₂, subst, sym, ◌∙◌, inl, inr}
-use Rattle.std.specs.List.{range_with_len}
+-- Turns of the machine, from what was done on a canvas.
+use Rattle.std.proofs.Common.{◌≡◌, ℕ, suc, ◌+◌, ◌*◌, ◌<◌, ◌≤◌, arith, pos, ℤ, Bool, true, false, cond, List, [], ◌∷◌, ◌++◌, length, map, get_or, Option, Some, None, IfSome, ◌&&◌, Result, Ok, Err, refl, ap, ap₂, subst, sym, ◌∙◌, inl, inr}
+use Rattle.std.specs.List.{range_with_len, flat_map, list_any}
 use Rattle.std.proofs.lemmas.List.{append-nil}
-use Rattle.ev_argb.specs.Argb.{Argb}
-use Rattle.ev_argb.specs.Grid.{Grid, row_of}
+use Rattle.std.proofs.Math.Bool.{true≢false}
+use Rattle.std.proofs.lemmas.Option.{none-some}
+use Rattle.std.specs.Result.{is_ok}
+use Rattle.ev_argb.specs.Argb.{Argb, clear}
+use Rattle.ev_argb.specs.Grid.{Grid, row_of, pixel_at}
 use Rattle.ev_geom.specs.Area.{Area}
 use Rattle.ev_port.specs.Told.{GrowsBy, grows_by_none}
 use Rattle.ev_port.specs.Causes.{RoseBy, rose_by_none}
 use Rattle.ev_port.specs.Frame.{Frame, frame_of, pixels_of}
 use Rattle.ev_port.specs.declared.file.StoredFile.{StoredFile}
 use Rattle.ev_model.specs.Answer.{Answer, Shown, Lost, DumpRow, Bad, Refused}
-use Rattle.ev_model.specs.Paint.{IsRedrawn, redrawn}
+use Rattle.ev_model.specs.Paint.{IsRedrawn, paint}
 use Rattle.ev_model.specs.Stage.{Stage}
 use Rattle.ev_model.specs.Text.{reply_text, text}
 use Rattle.ev_model.specs.declared.command.Command.{Command}
 use Rattle.ev_model.specs.declared.command.Command.TheVariants as command
 use Rattle.ev_model.specs.declared.command.Edit.{Edit}
+use Rattle.ev_model.specs.declared.command.Edit.TheVariants as edits
+use Rattle.ev_model.specs.declared.content.Content.{Content}
+use Rattle.ev_model.specs.declared.object.Object.{Object}
 use Rattle.ev_model.specs.declared.refusal.BadLine.TheVariants as bad
 use Rattle.ev_model.specs.declared.refusal.Refusal.{Refusal}
-use Rattle.ev_model.specs.declared.refusal.Refusal.TheVariants.{NoFrame, NoMemory}
+use Rattle.ev_model.specs.declared.refusal.Refusal.TheVariants.{NoFrame, NoMemory, Range}
 use Rattle.ev_lang.specs.declared.line.Line.{Line}
 use Rattle.ev_lang.specs.declared.line.Line.TheVariants as line
-use Rattle.ev_scene.specs.Board.{Board, board, stage_of}
-use Rattle.ev_scene.specs.Edits.{verdict, effect, Refuses}
-use Rattle.ev_script.specs.declared.session.Session.{Session}
-use Rattle.ev_script.specs.Machine.{State, Start, Turn, Step, Commanded, Edited, Rendered, as_shown, as_lost, as_refused, stays, drawn, printed, next, whole, redrawn_frame, painted_row, rows, sums, shown, lost_frames, store_failures}
-use Rattle.ev_script.specs.Totals.{totals}
+use Rattle.ev_scene.specs.Board.{Board, board, stage_of, named}
+use Rattle.ev_scene.specs.Edits.{Edits, verdict, effect, Refuses, is_image, is_text}
+use Rattle.ev_preload.specs.Loads.{Loads, is_for}
+use Rattle.ev_canvas.specs.Canvas.{Parts}
+use Rattle.ev_canvas.specs.Chain.{Showing, Shows, newest_of}
+use Rattle.ev_canvas.specs.Commands.{Commanded}
+use Rattle.ev_canvas.specs.Frames.{AddsRect, IsPictureOf, hidden_of, runs}
+use Rattle.ev_canvas.specs.Starts.{Entry, Latest}
+use Rattle.ev_canvas.specs.declared.frames.NoPicture.{NoPicture}
+use Rattle.ev_canvas.specs.declared.frames.NoPicture.TheVariants as no_picture
+use Rattle.ev_canvas.specs.Loading.{EditsUnless, is_waiting, is_loading_image, is_loading_text, kept}
+use Rattle.ev_canvas.specs.Machine.{State, Turn, stays, becomes, Edited, Added, area_of, with_given, with_hidden, printed, none_running}
+use Rattle.ev_script.specs.Machine.{Step, lost_frames, store_failures}
 use Rattle.ev_script.specs.Outside.{Outside, outside, Whole}
-use Rattle.ev_script.specs.Session.{ShowsNewest, StandsFor, Carried}
-use Rattle.ev_script.proofs.Painting.{same_row, same_pixels, same_map}
+use Rattle.ev_script.specs.Session.{StandsFor, ShowsMore, Carried}
 
 -- one reply is its own text
 pub one_text : (Wrote : Option (List ℕ) → Option (List ℕ) → List ℕ → Type 0) (log log' : Option (List ℕ)) (reply : Answer) → Wrote log log' (reply_text reply) → Wrote log log' (text (reply ∷ []))
 one_text Wrote log log' reply wrote = subst (λ bytes. Wrote log log' bytes) (sym (append-nil (reply_text reply))) wrote
 
--- a line after which the state stays
-pub stayed : (Wrote : Option (List ℕ) → Option (List ℕ) → List ℕ → Type 0) (files : Option (List StoredFile)) (state : State) (n : ℕ) (line : Line) (log log' : Option (List ℕ)) (screen : Option (List Frame)) (faults store_faults : ℕ) (new : Session) (replies : List Answer) → StandsFor new state → Step files state n line (stays state replies) → lost_frames replies ≡ 0 → store_failures replies ≡ 0 → Wrote log log' (text replies) → Carried Wrote files n line (outside log screen faults store_faults) (outside log' screen faults store_faults) state new
-stayed Wrote files state n line log log' screen faults store_faults new replies stands step none no_failures wrote = record {
-  turn = stays state replies;
+-- nothing more is shown of the same starts
+pub shows_none : (old new : State) → new.starts ≡ old.starts → ShowsMore old new []
+shows_none old new same earlier shows = subst (λ list. Shows new.starts list) (sym (append-nil earlier)) (subst (λ starts. Shows starts earlier) (sym same) shows)
+
+-- a line that starts no frame
+pub turned : (Wrote : Option (List ℕ) → Option (List ℕ) → List ℕ → Type 0) (cell : ℕ) (files : Option (List StoredFile)) (state : State) (n : ℕ) (line : Line) (log log' : Option (List ℕ)) (screen : Option (List Frame)) (faults before now : ℕ) (new : Parts) (turn : Turn) → turn.after.starts ≡ state.starts → StandsFor new turn.after → Step cell files state n line turn → lost_frames turn.replies ≡ 0 → RoseBy (store_failures turn.replies) before now → Wrote log log' (text turn.replies) → Carried Wrote cell files n line (outside log screen faults before) (outside log' screen faults now) state new
+turned Wrote cell files state n line log log' screen faults before now new turn same stands step none rose wrote = record {
+  turn = turn;
   step = step;
   stands = stands;
   log_grows = wrote;
-  frames = [];
-  shown_grows = sym (append-nil (shown state.starts));
+  showings = [];
+  shows_more = shows_none state turn.after same;
   screen_grows = grows_by_none screen;
   losses = subst (λ k. RoseBy k faults faults) (sym none) (rose_by_none faults faults (omega arith));
-  failures = subst (λ k. RoseBy k store_faults store_faults) (sym no_failures) (rose_by_none store_faults store_faults (omega arith));
+  failures = rose;
 }
 
+-- a line after which the state stays
+pub stayed : (Wrote : Option (List ℕ) → Option (List ℕ) → List ℕ → Type 0) (cell : ℕ) (files : Option (List StoredFile)) (state : State) (n : ℕ) (line : Line) (log log' : Option (List ℕ)) (screen : Option (List Frame)) (faults store_faults : ℕ) (new : Parts) (replies : List Answer) → StandsFor new state → Step cell files state n line (stays state replies) → lost_frames replies ≡ 0 → store_failures replies ≡ 0 → Wrote log log' (text replies) → Carried Wrote cell files n line (outside log screen faults store_faults) (outside log' screen faults store_faults) state new
+stayed Wrote cell files state n line log log' screen faults store_faults new replies stands step none no_failures wrote =
+    turned Wrote cell files state n line log log' screen faults store_faults store_faults new (stays state replies) refl stands step none (subst (λ k. RoseBy k store_faults store_faults) (sym no_failures) (rose_by_none store_faults store_faults (omega arith))) wrote
+
+-- a line that changes the state and tells nothing
+pub changed : (cell : ℕ) (files : Option (List StoredFile)) (state : State) (n : ℕ) (line : Line) (log : Option (List ℕ)) (screen : Option (List Frame)) (faults store_faults : ℕ) (new : Parts) (after : State) → after.starts ≡ state.starts → StandsFor new after → Step cell files state n line (becomes after) → Carried Whole cell files n line (outside log screen faults store_faults) (outside log screen faults store_faults) state new
+changed cell files state n line log screen faults store_faults new after same stands step =
+    turned Whole cell files state n line log log screen faults store_faults store_faults new (becomes after) same stands step refl (rose_by_none store_faults store_faults (omega arith)) (grows_by_none log)
+
+-- a canvas that is the same stands for the same
+pub still : (old new : Parts) (state : State) → new ≡ old → StandsFor old state → StandsFor new state
+still old new state same stands = subst (λ c. StandsFor c state) (sym same) stands
+
+never_and : (b : Bool) → (b && false) ≡ false
+never_and true = refl
+never_and false = refl
+
+no_image : (loads : Loads) (o : Option Object) → loads.running ≡ [] → is_loading_image loads o ≡ false
+no_image loads None none = refl
+no_image loads (Some o) none = ap (λ running. is_image o.content && list_any (is_for o.id) running) none ∙ never_and (is_image o.content)
+
+no_text : (loads : Loads) (o : Option Object) → loads.running ≡ [] → is_loading_text loads o ≡ false
+no_text loads None none = refl
+no_text loads (Some o) none = ap (λ running. is_text o.content && list_any (is_for o.id) running) none ∙ never_and (is_text o.content)
+
+-- where no load runs, no edit waits for one
+pub never_waits : (scene : Board) (loads : Loads) (edit : Edit) → loads.running ≡ [] → is_waiting scene loads edit ≡ false
+never_waits scene loads (edits.File name key) none = no_image loads (named scene.objects name) none
+never_waits scene loads (edits.Font name key) none = no_text loads (named scene.objects name) none
+never_waits scene loads other none = refl
+
+-- so it is as for a scene without loads
+pub unwaiting : {T : Type 0} (scene : Board) (loads : Loads) (edit : Edit) (result : Result T Refusal) (new : Board) → loads.running ≡ [] → EditsUnless (is_waiting scene loads edit) scene edit result new → Edits scene edit result new
+unwaiting scene loads edit result new none edits_so = subst (λ b. EditsUnless b scene edit result new) (never_waits scene loads edit none) edits_so
+
+-- the loads stay where none runs
+pub loads_stay : (b : Board) (old new : Loads) (begun : ℕ) → old ≡ none_running begun → new ≡ record old { running = kept b old.running } → new ≡ none_running begun
+loads_stay b old new begun is now =
+    let keep : Loads → Loads = λ ls. record ls { running = kept b ls.running } in
+    now ∙ ap keep is
+
 -- an accepted edit
-pub edited : (files : Option (List StoredFile)) (state : State) (n : ℕ) (edit : Edit) (log : Option (List ℕ)) (screen : Option (List Frame)) (faults store_faults : ℕ) (old new : Session) → StandsFor old state → verdict (board old.scene) edit ≡ None → board new.scene ≡ effect (board old.scene) edit → new.frames ≡ old.frames → new.picture ≡ old.picture → new.preloads ≡ old.preloads → Carried Whole files n (line.Command (command.Edit edit)) (outside log screen faults store_faults) (outside log screen faults store_faults) state new
-edited files state n edit log screen faults store_faults old new stands accepted scene frames picture loads =
-    let turn : Turn = record { replies = []; after = record state { scene = effect state.scene edit } } in
-    let accepted_here = ap (λ s. verdict s edit) (sym stands.scene) ∙ accepted in
-    record {
-      turn = turn;
-      step = subst (λ v. Edited state n edit v turn) (sym accepted_here) (inl refl);
-      stands = record {
-        scene = scene ∙ ap (λ s. effect s edit) stands.scene;
-        frames = frames ∙ stands.frames;
-        picture = subst (λ p. ShowsNewest p state.starts) (sym picture) stands.picture;
-        loads = loads ∙ stands.loads;
-      };
-      log_grows = grows_by_none log;
-      frames = [];
-      shown_grows = sym (append-nil (shown state.starts));
-      screen_grows = grows_by_none screen;
-      losses = rose_by_none faults faults (omega arith);
-      failures = rose_by_none store_faults store_faults (omega arith);
-    }
+pub edited : (cell : ℕ) (files : Option (List StoredFile)) (state : State) (n : ℕ) (edit : Edit) (log : Option (List ℕ)) (screen : Option (List Frame)) (faults store_faults : ℕ) (old new : Parts) → StandsFor old state → verdict (board old.scene) edit ≡ None → board new.scene ≡ effect (board old.scene) edit → new.frames ≡ old.frames → new.loads ≡ record old.loads { running = kept (board new.scene) old.loads.running } → Carried Whole cell files n (line.Command (command.Edit edit)) (outside log screen faults store_faults) (outside log screen faults store_faults) state new
+edited cell files state n edit log screen faults store_faults old new stands accepted scene frames loads =
+    let after : State = record state { scene = effect state.scene edit } in
+    changed cell files state n (line.Command (command.Edit edit)) log screen faults store_faults new after refl (record {
+      scene = scene ∙ ap (λ s. effect s edit) stands.scene;
+      given = ap (λ f. f.given) frames ∙ stands.given;
+      areas = ap (λ f. f.areas) frames ∙ stands.areas;
+      count = ap (λ f. f.count) frames ∙ stands.count;
+      newest = ap (λ f. f.newest) frames ∙ stands.newest;
+      loads = loads_stay (board new.scene) old.loads new.loads state.begun stands.loads loads;
+    }) (subst (λ v. Edited state n edit v (becomes after)) (sym (ap (λ s. verdict s edit) (sym stands.scene) ∙ accepted)) (inl refl))
 
 -- a refused edit
-pub edit_refused : (Wrote : Option (List ℕ) → Option (List ℕ) → List ℕ → Type 0) (files : Option (List StoredFile)) (state : State) (n : ℕ) (edit : Edit) (cause : Refusal) (log log' : Option (List ℕ)) (screen : Option (List Frame)) (faults store_faults : ℕ) (old new : Session) → StandsFor old state → Refuses (verdict (board old.scene) edit) cause → board new.scene ≡ board old.scene → new.frames ≡ old.frames → new.picture ≡ old.picture → new.preloads ≡ old.preloads → Wrote log log' (reply_text (Refused cause n)) → Carried Wrote files n (line.Command (command.Edit edit)) (outside log screen faults store_faults) (outside log' screen faults store_faults) state new
-edit_refused Wrote files state n edit cause log log' screen faults store_faults old new stands refuses scene frames picture loads wrote =
+pub edit_refused : (Wrote : Option (List ℕ) → Option (List ℕ) → List ℕ → Type 0) (cell : ℕ) (files : Option (List StoredFile)) (state : State) (n : ℕ) (edit : Edit) (cause : Refusal) (log log' : Option (List ℕ)) (screen : Option (List Frame)) (faults store_faults : ℕ) (old new : Parts) → StandsFor old state → Refuses (verdict (board old.scene) edit) cause → board new.scene ≡ board old.scene → new.frames ≡ old.frames → new.loads ≡ record old.loads { running = kept (board new.scene) old.loads.running } → Wrote log log' (reply_text (Refused cause n)) → Carried Wrote cell files n (line.Command (command.Edit edit)) (outside log screen faults store_faults) (outside log' screen faults store_faults) state new
+edit_refused Wrote cell files state n edit cause log log' screen faults store_faults old new stands refuses scene frames loads wrote =
     let here = subst (λ s. Refuses (verdict s edit) cause) stands.scene refuses in
-    let still : StandsFor new state = record {
+    stayed Wrote cell files state n (line.Command (command.Edit edit)) log log' screen faults store_faults new (Refused cause n ∷ []) (record {
       scene = scene ∙ stands.scene;
-      frames = frames ∙ stands.frames;
-      picture = subst (λ p. ShowsNewest p state.starts) (sym picture) stands.picture;
-      loads = loads ∙ stands.loads;
-    } in
-    stayed Wrote files state n (line.Command (command.Edit edit)) log log' screen faults store_faults new (Refused cause n ∷ []) still (refused_step (verdict state.scene edit) here) refl refl (one_text Wrote log log' (Refused cause n) wrote)
+      given = ap (λ f. f.given) frames ∙ stands.given;
+      areas = ap (λ f. f.areas) frames ∙ stands.areas;
+      count = ap (λ f. f.count) frames ∙ stands.count;
+      newest = ap (λ f. f.newest) frames ∙ stands.newest;
+      loads = loads_stay (board new.scene) old.loads new.loads state.begun stands.loads loads;
+    }) (refused_step (verdict state.scene edit) here) refl refl (one_text Wrote log log' (Refused cause n) wrote)
   where
     refused_step : (v : Option Refusal) → Refuses v cause → Edited state n edit v (stays state (Refused cause n ∷ []))
     refused_step (Some first) same = ap (λ c. stays state (Refused c n ∷ [])) same
     refused_step None same = inr (ap (λ c. stays state (Refused c n ∷ [])) same)
 
--- a picture that is a redraw of the scene is shown as its frame
-same_frame : (scene : Board) (n m : ℕ) (area : Area) (picture : Grid) → n ≡ m → area ≡ whole scene → IsRedrawn (stage_of scene) picture → frame_of n (area ∷ []) picture ≡ redrawn_frame m scene
-same_frame scene n m area picture number is_whole painted =
-    let make : ℕ → ℕ → ℕ → Area → List Argb → Frame = λ k w h a pixels. record { number = k; w = w; h = h; updates = a ∷ []; pixels = pixels } in
-    ap₂ (λ k w. make k w picture.h area (pixels_of picture)) number painted.width
-    ∙ ap₂ (λ h a. make m scene.w h a (pixels_of picture)) painted.height is_whole
-    ∙ ap (make m scene.w scene.h (whole scene)) (same_pixels (stage_of scene) picture painted)
+-- the cause of an error, or another where there is none
+abbrev cause_or : Refusal → Result (Unit {0}) Refusal → Refusal
+cause_or other (Ok done) = other
+cause_or other (Err cause) = cause
 
--- the session after a frame was drawn
-drawn_stands : (state : State) (is_shown : Bool) (replies : List Answer) (picture : Grid) (old new : Session) → StandsFor old state → IsRedrawn (stage_of (board old.scene)) picture → new.scene ≡ old.scene → new.frames ≡ old.frames + 1 → new.picture ≡ Some picture → new.preloads ≡ old.preloads → StandsFor new (drawn state is_shown replies).after
-drawn_stands state is_shown replies picture old new stands painted scene frames shows loads =
-    let starts = record { scene = state.scene; is_shown = is_shown } ∷ state.starts in
-    record {
-      scene = ap board scene ∙ stands.scene;
-      frames = frames ∙ ap (λ n. n + 1) stands.frames ∙ omega arith;
-      loads = loads ∙ stands.loads;
-      picture = subst (λ p. ShowsNewest p starts) (sym shows) (subst (λ s. IsRedrawn (stage_of s) picture) stands.scene painted);
-    }
+-- why a rectangle wasn't added
+pub rect_refused : (state : State) (n : ℕ) (area : Option Area) (with_area : Area → State) (list list' : List Area) (cause : Refusal) → AddsRect area list (Err cause) list' → Added state n area with_area (stays state (Refused cause n ∷ []))
+rect_refused state n None with_area list list' cause adds = ap (λ r. stays state (Refused (cause_or Range r) n ∷ [])) adds.0
+rect_refused state n (Some area) with_area list list' cause adds = inr (ap (λ c. stays state (Refused c n ∷ [])) adds.0)
 
--- the updates of a frame are the whole picture
-whole_picture : (scene : Board) (area : Area) (picture : Grid) → area ≡ record { x = pos 0; y = pos 0; w = pos picture.w; h = pos picture.h } → IsRedrawn (stage_of scene) picture → area ≡ whole scene
-whole_picture scene area picture is painted = is ∙ ap₂ (λ w h. record { x = pos 0; y = pos 0; w = pos w; h = pos h }) painted.width painted.height
+pub rect_stays : (area : Option Area) (list list' : List Area) (cause : Refusal) → AddsRect area list (Err cause) list' → list' ≡ list
+rect_stays None list list' cause adds = adds.1
+rect_stays (Some area) list list' cause adds = adds.1
 
--- a frame that the screen took
-pub frame_shown : (Wrote : Option (List ℕ) → Option (List ℕ) → List ℕ → Type 0) (files : Option (List StoredFile)) (state : State) (n : ℕ) (area : Area) (picture : Grid) (w h : ℕ) (log log' : Option (List ℕ)) (screen screen' : Option (List Frame)) (faults faults' store_faults : ℕ) (old new : Session) → StandsFor old state → area ≡ record { x = pos 0; y = pos 0; w = pos picture.w; h = pos picture.h } → w ≡ picture.w → h ≡ picture.h → IsRedrawn (stage_of (board old.scene)) picture → new.scene ≡ old.scene → new.frames ≡ old.frames + 1 → new.picture ≡ Some picture → new.preloads ≡ old.preloads → faults ≤ faults' → Wrote log log' (reply_text (Shown (old.frames + 1) w h (area ∷ []))) → GrowsBy screen screen' (frame_of (old.frames + 1) (area ∷ []) picture ∷ []) → Carried Wrote files n (line.Command command.Render) (outside log screen faults store_faults) (outside log' screen' faults' store_faults) state new
-frame_shown Wrote files state n area picture w h log log' screen screen' faults faults' store_faults old new stands area_is width height painted scene frames shows loads later wrote screen_grows =
-    let reply = Shown (next state) state.scene.w state.scene.h (whole state.scene ∷ []) in
-    let here = subst (λ s. IsRedrawn (stage_of s) picture) stands.scene painted in
-    let count : old.frames + 1 ≡ next state = ap (λ k. k + 1) stands.frames in
-    let area_here = whole_picture state.scene area picture area_is here in
-    let wrote_count = subst (λ k. Wrote log log' (reply_text (Shown k w h (area ∷ [])))) count wrote in
-    let wrote_width = subst (λ k. Wrote log log' (reply_text (Shown (next state) k h (area ∷ [])))) (width ∙ here.width) wrote_count in
-    let wrote_height = subst (λ k. Wrote log log' (reply_text (Shown (next state) state.scene.w k (area ∷ [])))) (height ∙ here.height) wrote_width in
-    let wrote_here = subst (λ a. Wrote log log' (reply_text (Shown (next state) state.scene.w state.scene.h (a ∷ [])))) area_here wrote_height in
-    record {
-      turn = drawn state true (reply ∷ []);
-      step = as_shown;
-      stands = drawn_stands state true (reply ∷ []) picture old new stands painted scene frames shows loads;
-      log_grows = one_text Wrote log log' reply wrote_here;
-      frames = redrawn_frame (next state) state.scene ∷ [];
-      shown_grows = refl;
-      screen_grows = subst (λ frame. GrowsBy screen screen' (frame ∷ [])) (same_frame state.scene (old.frames + 1) (next state) area picture count area_here here) screen_grows;
-      losses = rose_by_none faults faults' later;
-      failures = rose_by_none store_faults store_faults (omega arith);
-    }
+-- a rectangle that was added
+pub record WasAdded (area : Option Area) (list list' : List Area) : Type 0 where
+  pub added : Area
+  pub is : area ≡ Some added
+  pub more : list' ≡ list ++ added ∷ []
 
--- a frame that the screen lost
-pub frame_lost : (Wrote : Option (List ℕ) → Option (List ℕ) → List ℕ → Type 0) (files : Option (List StoredFile)) (state : State) (n : ℕ) (picture : Grid) (log log' : Option (List ℕ)) (screen screen' : Option (List Frame)) (faults faults' store_faults : ℕ) (old new : Session) → StandsFor old state → IsRedrawn (stage_of (board old.scene)) picture → new.scene ≡ old.scene → new.frames ≡ old.frames + 1 → new.picture ≡ Some picture → new.preloads ≡ old.preloads → RoseBy 1 faults faults' → Wrote log log' (reply_text (Lost (old.frames + 1))) → GrowsBy screen screen' [] → Carried Wrote files n (line.Command command.Render) (outside log screen faults store_faults) (outside log' screen' faults' store_faults) state new
-frame_lost Wrote files state n picture log log' screen screen' faults faults' store_faults old new stands painted scene frames shows loads rose wrote screen_grows =
-    let reply = Lost (next state) in
-    let count : old.frames + 1 ≡ next state = ap (λ k. k + 1) stands.frames in
-    record {
-      turn = drawn state false (reply ∷ []);
-      step = as_lost;
-      stands = drawn_stands state false (reply ∷ []) picture old new stands painted scene frames shows loads;
-      log_grows = one_text Wrote log log' reply (subst (λ k. Wrote log log' (reply_text (Lost k))) count wrote);
-      frames = [];
-      shown_grows = refl;
-      screen_grows = screen_grows;
-      losses = rose;
-      failures = rose_by_none store_faults store_faults (omega arith);
-    }
+pub rect_added : (area : Option Area) (list list' : List Area) (done : Unit {0}) → AddsRect area list (Ok done) list' → WasAdded area list list'
+rect_added None list list' done adds = absurd (true≢false (ap is_ok adds.0))
+rect_added (Some area) list list' done adds = record { added = area; is = refl; more = adds }
 
--- the rows of a picture
-abbrev pub picture_rows : Grid → List Answer
-picture_rows grid = map (λ y. DumpRow (map Some (row_of grid y))) (range_with_len 0 grid.h)
+-- so the machine may add it
+pub may_add : (state : State) (n : ℕ) (area : Option Area) (with_area : Area → State) (added : Area) → area ≡ Some added → Added state n area with_area (becomes (with_area added))
+may_add state n area with_area added is = subst (λ a. Added state n a with_area (becomes (with_area added))) (sym is) (inl refl)
 
--- no row tells of a lost frame
-rows_lose_none : (row : ℕ → List (Option Argb)) (ys : List ℕ) → lost_frames (map (λ y. DumpRow (row y)) ys) ≡ 0
-rows_lose_none row [] = refl
-rows_lose_none row (y ∷ ys) = omega (arith, rows_lose_none row ys)
+-- the same of the same rectangle
+pub recast : (area area' : Option Area) (old new : List Area) (result : Result (Unit {0}) Refusal) → area ≡ area' → AddsRect area old result new → AddsRect area' old result new
+recast area area' old new result same adds = subst (λ a. AddsRect a old result new) same adds
 
--- nor of a load that failed
-rows_fail_none : (row : ℕ → List (Option Argb)) (ys : List ℕ) → store_failures (map (λ y. DumpRow (row y)) ys) ≡ 0
-rows_fail_none row [] = refl
-rows_fail_none row (y ∷ ys) = omega (arith, rows_fail_none row ys)
+-- a rectangle that was given, which changed nothing else
+pub given_stands : (state : State) (old new : Parts) (added : Area) → StandsFor old state → new ≡ record old { frames = record old.frames { given = new.frames.given } } → new.frames.given ≡ old.frames.given ++ added ∷ [] → StandsFor new (with_given state added)
+given_stands state old new added stands alone more = record {
+  scene = ap (λ c. board c.scene) alone ∙ stands.scene;
+  given = more ∙ ap (λ g. g ++ added ∷ []) stands.given;
+  areas = ap (λ c. c.frames.areas) alone ∙ stands.areas;
+  count = ap (λ c. c.frames.count) alone ∙ stands.count;
+  newest = ap (λ c. c.frames.newest) alone ∙ stands.newest;
+  loads = ap (λ c. c.loads) alone ∙ stands.loads;
+}
 
--- the rows of a redraw are those of its scene
-same_rows : (stage : Stage) (grid : Grid) → IsRedrawn stage grid → picture_rows grid ≡ rows stage
-same_rows stage grid painted =
-    ap (λ h. map (λ y. DumpRow (map Some (row_of grid y))) (range_with_len 0 h)) painted.height
-    ∙ same_map (λ y. DumpRow (map Some (row_of grid y))) (λ y. DumpRow (map Some (painted_row stage y))) 0 stage.h stage.h (omega arith) (λ y below. ap (λ row. DumpRow (map Some row)) (same_row stage grid y painted below))
+-- hidden rectangles that changed, and nothing else
+pub areas_stand : (state : State) (old new : Parts) (areas : List Area) → StandsFor old state → new ≡ record old { frames = record old.frames { areas = new.frames.areas } } → new.frames.areas ≡ areas → StandsFor new (record state { areas = areas })
+areas_stand state old new areas stands alone is = record {
+  scene = ap (λ c. board c.scene) alone ∙ stands.scene;
+  given = ap (λ c. c.frames.given) alone ∙ stands.given;
+  areas = is;
+  count = ap (λ c. c.frames.count) alone ∙ stands.count;
+  newest = ap (λ c. c.frames.newest) alone ∙ stands.newest;
+  loads = ap (λ c. c.loads) alone ∙ stands.loads;
+}
 
--- the totals of a redraw are those of its scene
-same_sums : (stage : Stage) (grid : Grid) → IsRedrawn stage grid → totals (pixels_of grid) ∷ [] ≡ sums stage
-same_sums stage grid painted = ap (λ pixels. totals pixels ∷ []) (same_pixels stage grid painted)
+-- a damage line that was accepted
+pub damaged : (cell : ℕ) (files : Option (List StoredFile)) (state : State) (n : ℕ) (x y w h : ℤ) (log : Option (List ℕ)) (screen : Option (List Frame)) (faults store_faults : ℕ) (old new : Parts) (done : Unit {0}) → StandsFor old state → AddsRect (area_of x y w h) old.frames.given (Ok done) new.frames.given → new ≡ record old { frames = record old.frames { given = new.frames.given } } → Carried Whole cell files n (line.Command (command.Damage x y w h)) (outside log screen faults store_faults) (outside log screen faults store_faults) state new
+damaged cell files state n x y w h log screen faults store_faults old new done stands adds alone =
+    let was = rect_added (area_of x y w h) old.frames.given new.frames.given done adds in
+    changed cell files state n (line.Command (command.Damage x y w h)) log screen faults store_faults new (with_given state was.added) refl (given_stands state old new was.added stands alone was.more) (may_add state n (area_of x y w h) (with_given state) was.added was.is)
 
--- what a line prints of the picture drawn last
-prints_newest : (print : Stage → List Answer) (of : Grid → List Answer) → ((stage : Stage) (grid : Grid) → IsRedrawn stage grid → of grid ≡ print stage) → (state : State) (n : ℕ) (grid : Grid) (starts : List Start) → ShowsNewest (Some grid) starts → printed print state n starts ≡ stays state (of grid)
-prints_newest print of same state n grid [] shows = absurd shows
-prints_newest print of same state n grid (start ∷ older) shows = ap (stays state) (sym (same (stage_of start.scene) grid shows))
+-- and one that was refused
+pub damage_refused : (Wrote : Option (List ℕ) → Option (List ℕ) → List ℕ → Type 0) (cell : ℕ) (files : Option (List StoredFile)) (state : State) (n : ℕ) (x y w h : ℤ) (cause : Refusal) (log log' : Option (List ℕ)) (screen : Option (List Frame)) (faults store_faults : ℕ) (old new : Parts) → StandsFor old state → AddsRect (area_of x y w h) old.frames.given (Err cause) new.frames.given → new ≡ record old { frames = record old.frames { given = new.frames.given } } → Wrote log log' (reply_text (Refused cause n)) → Carried Wrote cell files n (line.Command (command.Damage x y w h)) (outside log screen faults store_faults) (outside log' screen faults store_faults) state new
+damage_refused Wrote cell files state n x y w h cause log log' screen faults store_faults old new stands adds alone wrote =
+    let kept = rect_stays (area_of x y w h) old.frames.given new.frames.given cause adds in
+    let same : new ≡ old = alone ∙ ap (λ g. record old { frames = record old.frames { given = g } }) kept in
+    stayed Wrote cell files state n (line.Command (command.Damage x y w h)) log log' screen faults store_faults new (Refused cause n ∷ []) (still old new state same stands) (rect_refused state n (area_of x y w h) (with_given state) old.frames.given new.frames.given cause adds) refl refl (one_text Wrote log log' (Refused cause n) wrote)
 
-prints_none : (print : Stage → List Answer) (state : State) (n : ℕ) (starts : List Start) → ShowsNewest None starts → printed print state n starts ≡ stays state (Refused NoFrame n ∷ [])
-prints_none print state n [] shows = refl
-prints_none print state n (start ∷ older) shows = absurd shows
+-- a line that hides an area
+pub hidden : (cell : ℕ) (files : Option (List StoredFile)) (state : State) (n : ℕ) (x y w h : ℤ) (log : Option (List ℕ)) (screen : Option (List Frame)) (faults store_faults : ℕ) (old new : Parts) (done : Unit {0}) → StandsFor old state → AddsRect (area_of x y w h) old.frames.areas (Ok done) new.frames.areas → new ≡ record old { frames = record old.frames { areas = new.frames.areas } } → Carried Whole cell files n (line.Command (command.HideArea x y w h)) (outside log screen faults store_faults) (outside log screen faults store_faults) state new
+hidden cell files state n x y w h log screen faults store_faults old new done stands adds alone =
+    let was = rect_added (area_of x y w h) old.frames.areas new.frames.areas done adds in
+    changed cell files state n (line.Command (command.HideArea x y w h)) log screen faults store_faults new (with_hidden state was.added) refl (areas_stand state old new (state.areas ++ was.added ∷ []) stands alone (was.more ∙ ap (λ a. a ++ was.added ∷ []) stands.areas)) (may_add state n (area_of x y w h) (with_hidden state) was.added was.is)
 
--- a dump of a picture
-pub picture_dumped : (Wrote : Option (List ℕ) → Option (List ℕ) → List ℕ → Type 0) (files : Option (List StoredFile)) (state : State) (n : ℕ) (grid : Grid) (log log' : Option (List ℕ)) (screen : Option (List Frame)) (faults store_faults : ℕ) (old : Session) → StandsFor old state → old.picture ≡ Some grid → Wrote log log' (text (picture_rows grid)) → Carried Wrote files n (line.Command command.Dump) (outside log screen faults store_faults) (outside log' screen faults store_faults) state old
-picture_dumped Wrote files state n grid log log' screen faults store_faults old stands is wrote =
-    let shows = subst (λ p. ShowsNewest p state.starts) is stands.picture in
-    stayed Wrote files state n (line.Command command.Dump) log log' screen faults store_faults old (picture_rows grid) stands (sym (prints_newest rows picture_rows same_rows state n grid state.starts shows)) (rows_lose_none (λ y. map Some (row_of grid y)) (range_with_len 0 grid.h)) (rows_fail_none (λ y. map Some (row_of grid y)) (range_with_len 0 grid.h)) wrote
+-- and one that was refused
+pub hide_refused : (Wrote : Option (List ℕ) → Option (List ℕ) → List ℕ → Type 0) (cell : ℕ) (files : Option (List StoredFile)) (state : State) (n : ℕ) (x y w h : ℤ) (cause : Refusal) (log log' : Option (List ℕ)) (screen : Option (List Frame)) (faults store_faults : ℕ) (old new : Parts) → StandsFor old state → AddsRect (area_of x y w h) old.frames.areas (Err cause) new.frames.areas → new ≡ record old { frames = record old.frames { areas = new.frames.areas } } → Wrote log log' (reply_text (Refused cause n)) → Carried Wrote cell files n (line.Command (command.HideArea x y w h)) (outside log screen faults store_faults) (outside log' screen faults store_faults) state new
+hide_refused Wrote cell files state n x y w h cause log log' screen faults store_faults old new stands adds alone wrote =
+    let kept = rect_stays (area_of x y w h) old.frames.areas new.frames.areas cause adds in
+    let same : new ≡ old = alone ∙ ap (λ a. record old { frames = record old.frames { areas = a } }) kept in
+    stayed Wrote cell files state n (line.Command (command.HideArea x y w h)) log log' screen faults store_faults new (Refused cause n ∷ []) (still old new state same stands) (rect_refused state n (area_of x y w h) (with_hidden state) old.frames.areas new.frames.areas cause adds) refl refl (one_text Wrote log log' (Refused cause n) wrote)
 
--- the totals of a picture
-pub picture_summed : (Wrote : Option (List ℕ) → Option (List ℕ) → List ℕ → Type 0) (files : Option (List StoredFile)) (state : State) (n : ℕ) (grid : Grid) (log log' : Option (List ℕ)) (screen : Option (List Frame)) (faults store_faults : ℕ) (old : Session) → StandsFor old state → old.picture ≡ Some grid → Wrote log log' (reply_text (totals (pixels_of grid))) → Carried Wrote files n (line.Command command.Sum) (outside log screen faults store_faults) (outside log' screen faults store_faults) state old
-picture_summed Wrote files state n grid log log' screen faults store_faults old stands is wrote =
-    let shows = subst (λ p. ShowsNewest p state.starts) is stands.picture in
-    let reply = totals (pixels_of grid) in
-    stayed Wrote files state n (line.Command command.Sum) log log' screen faults store_faults old (reply ∷ []) stands (sym (prints_newest sums (λ g. totals (pixels_of g) ∷ []) same_sums state n grid state.starts shows)) refl refl (one_text Wrote log log' reply wrote)
+-- a line that clears all areas
+pub cleared : (cell : ℕ) (files : Option (List StoredFile)) (state : State) (n : ℕ) (log : Option (List ℕ)) (screen : Option (List Frame)) (faults store_faults : ℕ) (old new : Parts) → StandsFor old state → new ≡ record old { frames = record old.frames { areas = [] } } → Carried Whole cell files n (line.Command command.ClearAreas) (outside log screen faults store_faults) (outside log screen faults store_faults) state new
+cleared cell files state n log screen faults store_faults old new stands is =
+    let none : new.frames.areas ≡ [] = ap (λ c. c.frames.areas) is in
+    let alone : new ≡ record old { frames = record old.frames { areas = new.frames.areas } } = is ∙ ap (λ a. record old { frames = record old.frames { areas = a } }) (sym none) in
+    changed cell files state n (line.Command command.ClearAreas) log screen faults store_faults new (record state { areas = [] }) refl (areas_stand state old new [] stands alone none) refl
 
--- a dump before the first frame
-pub dump_refused : (Wrote : Option (List ℕ) → Option (List ℕ) → List ℕ → Type 0) (files : Option (List StoredFile)) (state : State) (n : ℕ) (log log' : Option (List ℕ)) (screen : Option (List Frame)) (faults store_faults : ℕ) (old : Session) → StandsFor old state → old.picture ≡ None → Wrote log log' (reply_text (Refused NoFrame n)) → Carried Wrote files n (line.Command command.Dump) (outside log screen faults store_faults) (outside log' screen faults store_faults) state old
-dump_refused Wrote files state n log log' screen faults store_faults old stands is wrote =
-    let shows = subst (λ p. ShowsNewest p state.starts) is stands.picture in
-    stayed Wrote files state n (line.Command command.Dump) log log' screen faults store_faults old (Refused NoFrame n ∷ []) stands (sym (prints_none rows state n state.starts shows)) refl refl (one_text Wrote log log' (Refused NoFrame n) wrote)
+-- what a line prints of the frame drawn last
+pub printed_so : (Wrote : Option (List ℕ) → Option (List ℕ) → List ℕ → Type 0) (cell : ℕ) (files : Option (List StoredFile)) (state : State) (n : ℕ) (said : Command) (print : Entry → List Answer) (grid : Grid) (hidden : List Area) (replies : List Answer) (log log' : Option (List ℕ)) (screen : Option (List Frame)) (faults store_faults : ℕ) (old : Parts) → StandsFor old state → ((turn : Turn) → turn ≡ printed print state n state.starts → Commanded cell files state n said turn) → IsPictureOf old.frames.newest (Ok grid) → hidden ≡ hidden_of old.frames.newest → ((entry : Entry) → IsRedrawn entry.stage grid → hidden ≡ entry.hidden → replies ≡ print entry) → lost_frames replies ≡ 0 → store_failures replies ≡ 0 → Wrote log log' (text replies) → Carried Wrote cell files n (line.Command said) (outside log screen faults store_faults) (outside log' screen faults store_faults) state old
+printed_so Wrote cell files state n said print grid hidden replies log log' screen faults store_faults old stands commands picture hidden_is prints none fails wrote =
+    stayed Wrote cell files state n (line.Command said) log log' screen faults store_faults old replies stands (commands (stays state replies) (by state.starts (subst (λ (o : Option Latest). IsPictureOf o (Ok grid)) stands.newest picture) (hidden_is ∙ ap hidden_of stands.newest))) none fails wrote
+  where
+    by : (starts : List Latest) → IsPictureOf (newest_of starts) (Ok grid) → hidden ≡ hidden_of (newest_of starts) → stays state replies ≡ printed print state n starts
+    by [] picture is = absurd picture
+    by (latest ∷ older) picture is = ap (stays state) (prints latest.entry picture.1 is)
 
--- totals before the first frame
-pub sum_refused : (Wrote : Option (List ℕ) → Option (List ℕ) → List ℕ → Type 0) (files : Option (List StoredFile)) (state : State) (n : ℕ) (log log' : Option (List ℕ)) (screen : Option (List Frame)) (faults store_faults : ℕ) (old : Session) → StandsFor old state → old.picture ≡ None → Wrote log log' (reply_text (Refused NoFrame n)) → Carried Wrote files n (line.Command command.Sum) (outside log screen faults store_faults) (outside log' screen faults store_faults) state old
-sum_refused Wrote files state n log log' screen faults store_faults old stands is wrote =
-    let shows = subst (λ p. ShowsNewest p state.starts) is stands.picture in
-    stayed Wrote files state n (line.Command command.Sum) log log' screen faults store_faults old (Refused NoFrame n ∷ []) stands (sym (prints_none sums state n state.starts shows)) refl refl (one_text Wrote log log' (Refused NoFrame n) wrote)
+-- before the first frame there is none
+pub prints_none : (Wrote : Option (List ℕ) → Option (List ℕ) → List ℕ → Type 0) (cell : ℕ) (files : Option (List StoredFile)) (state : State) (n : ℕ) (said : Command) (print : Entry → List Answer) (cause : NoPicture) (log log' : Option (List ℕ)) (screen : Option (List Frame)) (faults store_faults : ℕ) (old : Parts) → StandsFor old state → ((turn : Turn) → turn ≡ printed print state n state.starts → Commanded cell files state n said turn) → runs old.frames.newest ≡ false → IsPictureOf old.frames.newest (Err cause) → Wrote log log' (reply_text (Refused NoFrame n)) → Carried Wrote cell files n (line.Command said) (outside log screen faults store_faults) (outside log' screen faults store_faults) state old
+prints_none Wrote cell files state n said print cause log log' screen faults store_faults old stands commands idle refused wrote =
+    stayed Wrote cell files state n (line.Command said) log log' screen faults store_faults old (Refused NoFrame n ∷ []) stands (commands (stays state (Refused NoFrame n ∷ [])) (by state.starts (subst (λ (o : Option Latest). runs o ≡ false) stands.newest idle) (subst (λ (o : Option Latest). IsPictureOf o (Err cause)) stands.newest refused))) refl refl (one_text Wrote log log' (Refused NoFrame n) wrote)
+  where
+    by : (starts : List Latest) → runs (newest_of starts) ≡ false → IsPictureOf (newest_of starts) (Err cause) → stays state (Refused NoFrame n ∷ []) ≡ printed print state n starts
+    by [] idle refused = refl
+    by (latest ∷ older) idle refused = absurd (none-some cause (ap (λ b. cond b (Some no_picture.Busy) None) (sym idle) ∙ refused))
+
+-- none of the commands that are carried out
+pub record IsUnbuilt (said : Command) : Type 0 where
+  pub edit : (edit : Edit) → said ≡ command.Edit edit → ⊥
+  pub damage : (x y w h : ℤ) → said ≡ command.Damage x y w h → ⊥
+  pub hide_area : (x y w h : ℤ) → said ≡ command.HideArea x y w h → ⊥
+  pub clear_areas : said ≡ command.ClearAreas → ⊥
+  pub load : (name : List ℕ) → said ≡ command.Load name → ⊥
+  pub render : said ≡ command.Render → ⊥
+  pub dump : said ≡ command.Dump → ⊥
+  pub sum : said ≡ command.Sum → ⊥
 
 -- a command that isn't built yet
-pub command_unbuilt : (Wrote : Option (List ℕ) → Option (List ℕ) → List ℕ → Type 0) (files : Option (List StoredFile)) (state : State) (n : ℕ) (said : Command) (log log' : Option (List ℕ)) (screen : Option (List Frame)) (faults store_faults : ℕ) (old : Session) → StandsFor old state → ((edit : Edit) → said ≡ command.Edit edit → ⊥) → ((name : List ℕ) → said ≡ command.Load name → ⊥) → (said ≡ command.Render → ⊥) → (said ≡ command.Dump → ⊥) → (said ≡ command.Sum → ⊥) → Wrote log log' (reply_text (Bad bad.Word n)) → Carried Wrote files n (line.Command said) (outside log screen faults store_faults) (outside log' screen faults store_faults) state old
-command_unbuilt Wrote files state n said log log' screen faults store_faults old stands not_edit not_load not_render not_dump not_sum wrote =
-    let reply = Bad bad.Word n in
-    stayed Wrote files state n (line.Command said) log log' screen faults store_faults old (reply ∷ []) stands (unbuilt said not_edit not_load not_render not_dump not_sum) refl refl (one_text Wrote log log' reply wrote)
+pub command_unbuilt : (Wrote : Option (List ℕ) → Option (List ℕ) → List ℕ → Type 0) (cell : ℕ) (files : Option (List StoredFile)) (state : State) (n : ℕ) (said : Command) (log log' : Option (List ℕ)) (screen : Option (List Frame)) (faults store_faults : ℕ) (old : Parts) → StandsFor old state → IsUnbuilt said → Wrote log log' (reply_text (Bad bad.Word n)) → Carried Wrote cell files n (line.Command said) (outside log screen faults store_faults) (outside log' screen faults store_faults) state old
+command_unbuilt Wrote cell files state n said log log' screen faults store_faults old stands unbuilt wrote =
+    stayed Wrote cell files state n (line.Command said) log log' screen faults store_faults old (Bad bad.Word n ∷ []) stands (is_bad said unbuilt) refl refl (one_text Wrote log log' (Bad bad.Word n) wrote)
   where
-    unbuilt : (said : Command) → ((edit : Edit) → said ≡ command.Edit edit → ⊥) → ((name : List ℕ) → said ≡ command.Load name → ⊥) → (said ≡ command.Render → ⊥) → (said ≡ command.Dump → ⊥) → (said ≡ command.Sum → ⊥) → Commanded files state n said (stays state (Bad bad.Word n ∷ []))
-    unbuilt (command.Edit edit) not_edit not_load not_render not_dump not_sum = absurd (not_edit edit refl)
-    unbuilt (command.Load name) not_edit not_load not_render not_dump not_sum = absurd (not_load name refl)
-    unbuilt command.Render not_edit not_load not_render not_dump not_sum = absurd (not_render refl)
-    unbuilt command.Dump not_edit not_load not_render not_dump not_sum = absurd (not_dump refl)
-    unbuilt command.Sum not_edit not_load not_render not_dump not_sum = absurd (not_sum refl)
-    unbuilt other not_edit not_load not_render not_dump not_sum = refl
+    is_bad : (said : Command) → IsUnbuilt said → Commanded cell files state n said (stays state (Bad bad.Word n ∷ []))
+    is_bad (command.Edit edit) unbuilt = absurd (unbuilt.edit edit refl)
+    is_bad (command.Damage x y w h) unbuilt = absurd (unbuilt.damage x y w h refl)
+    is_bad (command.HideArea x y w h) unbuilt = absurd (unbuilt.hide_area x y w h refl)
+    is_bad command.ClearAreas unbuilt = absurd (unbuilt.clear_areas refl)
+    is_bad (command.Load name) unbuilt = absurd (unbuilt.load name refl)
+    is_bad command.Render unbuilt = absurd (unbuilt.render refl)
+    is_bad command.Dump unbuilt = absurd (unbuilt.dump refl)
+    is_bad command.Sum unbuilt = absurd (unbuilt.sum refl)
+    is_bad other unbuilt = refl

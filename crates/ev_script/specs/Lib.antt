@@ -1,4 +1,5 @@
 pub mod Totals
+pub mod Places
 pub mod Loads
 pub mod Machine
 pub mod Outside

@@ -7,7 +7,9 @@ use Rattle.ev_model.specs.Answer.{Answer}
 use Rattle.ev_model.specs.Text.{text}
 use Rattle.ev_lang.specs.declared.line.Line.{Line}
 use Rattle.ev_lang.specs.Lines.{lines, line_of}
-use Rattle.ev_script.specs.Machine.{State, Turn, Step, Plays, opening, shown, lost_frames, store_failures}
+use Rattle.ev_canvas.specs.Chain.{Showing, Shows, AreReported}
+use Rattle.ev_canvas.specs.Machine.{State, Turn, opening}
+use Rattle.ev_script.specs.Machine.{Step, Plays, lost_frames, store_failures}
 use Rattle.ev_script.specs.Outside.{Outside}
 
 -- what the lines of a script say
@@ -15,36 +17,43 @@ abbrev pub script_lines : List ℕ → List Line
 script_lines script = map line_of (lines script)
 
 -- The machine plays all lines of the script. The log has grown by the bytes of its replies and the
--- screen by the frames that it shows. The screen failed at least once for each lost frame, and the
+-- screen by the frames that it shows: each is a full redraw of the scene at its start, outside of what is
+-- hidden, and reports in what it differs from the one before. The screen failed at least once for each lost frame, and the
 -- store at least once for each load that is told as failed there. `files` are those of the store, where
 -- it tells them.
-pub record Played (files : Option (List StoredFile)) (script : List ℕ) (before after : Outside) : Type 0 where
+pub record Played (cell : ℕ) (files : Option (List StoredFile)) (script : List ℕ) (before after : Outside) : Type 0 where
   pub replies : List Answer
   pub final : State
-  pub plays : Plays files opening 1 (script_lines script) replies final
+  pub plays : Plays cell files opening 1 (script_lines script) replies final
   pub log_grows : GrowsBy before.log after.log (text replies)
-  pub screen_grows : GrowsBy before.frames after.frames (shown final.starts)
+  pub showings : List Showing
+  pub shows : Shows final.starts showings
+  pub reported : AreReported showings
+  pub screen_grows : GrowsBy before.frames after.frames (map (λ s. s.frame) showings)
   pub losses : RoseBy (lost_frames replies) before.faults after.faults
   pub failures : RoseBy (store_failures replies) before.store_faults after.store_faults
 
 -- The log failed within the replies to a line. The lines before it were played and answered whole; of
 -- the replies to this one only a front was written. The screen has grown by the frames that the machine
 -- shows up to this line, which is carried out.
-pub record Stopped (files : Option (List StoredFile)) (script : List ℕ) (before after : Outside) : Type 0 where
+pub record Stopped (cell : ℕ) (files : Option (List StoredFile)) (script : List ℕ) (before after : Outside) : Type 0 where
   pub answered : List Line
   pub last : Line
   pub left : List Line
   pub split : script_lines script ≡ answered ++ last ∷ left
   pub replies : List Answer
   pub state : State
-  pub plays : Plays files opening 1 answered replies state
+  pub plays : Plays cell files opening 1 answered replies state
   pub turn : Turn
-  pub step : Step files state (length answered + 1) last turn
+  pub step : Step cell files state (length answered + 1) last turn
   pub written : List ℕ
   pub missing : List ℕ
   pub cut : text turn.replies ≡ written ++ missing
   pub log_grows : GrowsBy before.log after.log (text replies ++ written)
-  pub screen_grows : GrowsBy before.frames after.frames (shown turn.after.starts)
+  pub showings : List Showing
+  pub shows : Shows turn.after.starts showings
+  pub reported : AreReported showings
+  pub screen_grows : GrowsBy before.frames after.frames (map (λ s. s.frame) showings)
   pub losses : RoseBy (lost_frames (replies ++ turn.replies)) before.faults after.faults
   pub failures : RoseBy (store_failures (replies ++ turn.replies)) before.store_faults after.store_faults
 

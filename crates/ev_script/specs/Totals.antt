@@ -1,20 +1,8 @@
--- The totals of a picture.
-use Rattle.std.specs.Prelude.{ℕ, ◌+◌, ◌*◌, ◌≤◌, ◌^◌, List, [], ◌∷◌, sum_by}
+-- Totals that are counted pixel by pixel.
+use Rattle.std.specs.Prelude.{ℕ, ◌+◌, ◌*◌, ◌≤◌, ◌^◌, Option, Some, None}
 use Rattle.ev_argb.specs.Argb.{Argb}
 use Rattle.ev_model.specs.Answer.{Answer, Sum}
-
--- the sum of a pixel's channels
-abbrev pub channels : Argb → ℕ
-channels p = p.a + p.r + p.g + p.b
-
--- the sum of the channels of all pixels, each times its place, where the first has this place
-abbrev pub weighted : ℕ → List Argb → ℕ
-weighted place [] = 0
-weighted place (p ∷ ps) = place * channels p + weighted (place + 1) ps
-
--- the totals of the four channels, and one in which each pixel counts by its place from 1 on
-abbrev pub totals : List Argb → Answer
-totals pixels = Sum (sum_by (λ p. p.a) pixels) (sum_by (λ p. p.r) pixels) (sum_by (λ p. p.g) pixels) (sum_by (λ p. p.b) pixels) (weighted 1 pixels)
+use Rattle.ev_canvas.specs.Totals.{channels}
 
 -- totals of so many pixels
 pub record Counts : Type 0 where
@@ -52,3 +40,8 @@ with_pixel t p = record {
   b = t.b + p.b;
   weighted = t.weighted + (t.count + 1) * channels p;
 }
+
+-- with one place more, which may be hidden
+abbrev pub with_place : Counts → Option Argb → Counts
+with_place t None = record t { count = t.count + 1 }
+with_place t (Some p) = with_pixel t p

@@ -1,15 +1,16 @@
 // The top call on one thread.
-ghost use Rattle.std.specs.Prelude.{◌≡◌, false, true, not};
+ghost use Rattle.std.specs.Prelude.{◌≡◌, ◌≤◌, ◌<◌, ◌^◌, false, true, not, length};
 ghost use Rattle.ev_port.specs.Causes.{Rose};
 ghost use Rattle.ev_script.specs.Outside.{outside};
 ghost use Rattle.ev_script.specs.Frames.{ShowsInOrder};
 ghost use Rattle.ev_script.specs.Play.{Played, Stopped, OfScript};
-ghost use Rattle.ev_script.specs.Words.{are_pairs};
+ghost use Rattle.ev_script.specs.Words.{are_pairs, options_of};
 ghost use Rattle.ev_script.specs.Status.{is_before_lines, is_too_long, is_usage, Takes, IsFine, texts};
 
+use crate::play;
 use crate::source::{ReadError, read_script};
-use crate::words::are_pairs;
-use crate::{Session, play};
+use crate::words::{are_pairs, options_of};
+use ev_canvas::{Canvas, Setup};
 use ev_port::{Screen, Sink, Source, Store};
 use std::alloc::Global;
 
@@ -32,7 +33,8 @@ pub enum Status {
 
 /// Reads a script from the source to its end, carries out its lines one after another, writes its log
 /// to the sink and shows its frames on the screen; images and fonts come from the store (docs/SCRIPT.md,
-/// docs/CANVAS.md). `words` are those of the command line, of which none has an effect here yet.
+/// docs/CANVAS.md). `words` are those of the command line. Of these `--cell` has its effect; whatever
+/// they say of buffers and workers, the caller itself draws each frame whole.
 pub fn run_alone<S: Source, K: Sink, T: Store, P: Screen>(
     alloc: Global,
     words: &[&str],
@@ -41,10 +43,10 @@ pub fn run_alone<S: Source, K: Sink, T: Store, P: Screen>(
     store: &mut T,
     screen: &mut P,
 ) -> Status
-    ensures played { result ≡ Status.Ok → OfScript (Played (T.files store.old)) (S.left source.old) (S.left source.new)
+    ensures played { result ≡ Status.Ok → OfScript (Played (options_of (texts words.now)).cell (T.files store.old)) (S.left source.old) (S.left source.new)
         (outside (K.written sink.old) (P.shown screen.old) (P.faults screen.old) (T.faults store.old))
         (outside (K.written sink.new) (P.shown screen.new) (P.faults screen.new) (T.faults store.new)) }
-    ensures stopped { result ≡ Status.WriteFault → OfScript (Stopped (T.files store.old)) (S.left source.old) (S.left source.new)
+    ensures stopped { result ≡ Status.WriteFault → OfScript (Stopped (options_of (texts words.now)).cell (T.files store.old)) (S.left source.old) (S.left source.new)
         (outside (K.written sink.old) (P.shown screen.old) (P.faults screen.old) (T.faults store.old))
         (outside (K.written sink.new) (P.shown screen.new) (P.faults screen.new) (T.faults store.new)) }
     ensures in_order { ShowsInOrder (P.shown screen.old) (P.shown screen.new) }
@@ -62,16 +64,54 @@ pub fn run_alone<S: Source, K: Sink, T: Store, P: Screen>(
     if !are_pairs(words) {
         return Status::Usage;
     }
-    let Ok(mut session) = Session::new(alloc) else {
-        return Status::NoMemory;
+    let options = options_of(words);
+    let setup = Setup {
+        buffers: options.buffers,
+        cell: options.cell,
     };
     match read_script(alloc, source) {
-        Ok(script) => match play(alloc, &mut session, &script, sink, store, screen) {
-            Ok(()) => Status::Ok,
-            Err(_) => Status::WriteFault,
-        },
+        Ok(script) => play_on_new(alloc, setup, &script, sink, store, screen),
         Err(ReadError::Failed) => Status::ReadFault,
         Err(ReadError::TooLong) => Status::TooLong,
         Err(ReadError::NoMemory) => Status::NoMemory,
+    }
+}
+
+// Carries out a script on a canvas that is made for it.
+fn play_on_new<K: Sink, T: Store, P: Screen>(
+    alloc: Global,
+    setup: Setup,
+    script: &[u8],
+    sink: &mut K,
+    store: &mut T,
+    screen: &mut P,
+) -> Status
+    requires cell_low { 1 ≤ setup.cell }
+    requires cell_high { setup.cell ≤ 64 }
+    requires buffers_low { 1 ≤ setup.buffers }
+    requires buffers_high { setup.buffers ≤ 3 }
+    requires short { length script.now < 2 ^ 30 }
+    ensures played { result ≡ Status.Ok → Played setup.cell (T.files store.old) script.now
+        (outside (K.written sink.old) (P.shown screen.old) (P.faults screen.old) (T.faults store.old))
+        (outside (K.written sink.new) (P.shown screen.new) (P.faults screen.new) (T.faults store.new)) }
+    ensures stopped { result ≡ Status.WriteFault → Stopped setup.cell (T.files store.old) script.now
+        (outside (K.written sink.old) (P.shown screen.old) (P.faults screen.old) (T.faults store.old))
+        (outside (K.written sink.new) (P.shown screen.new) (P.faults screen.new) (T.faults store.new)) }
+    ensures in_order { ShowsInOrder (P.shown screen.old) (P.shown screen.new) }
+    ensures usage { is_usage result ≡ false }
+    ensures too_long { is_too_long result ≡ false }
+    ensures read_fault { ¬ (result ≡ Status.ReadFault) }
+    ensures write_fault { result ≡ Status.WriteFault → Rose (K.faults sink.old) (K.faults sink.new) }
+    ensures unwritten { is_before_lines result ≡ true → sink.new ≡ sink.old }
+    ensures unshown { is_before_lines result ≡ true → screen.new ≡ screen.old }
+    ensures unfetched { is_before_lines result ≡ true → store.new ≡ store.old }
+    ensures complete { ¬ Rose (K.faults sink.old) (K.faults sink.new) → IsFine result }
+{
+    let Ok(mut canvas) = Canvas::create(alloc, setup) else {
+        return Status::NoMemory;
+    };
+    match play(alloc, &mut canvas, script, sink, store, screen) {
+        Ok(()) => Status::Ok,
+        Err(_) => Status::WriteFault,
     }
 }

@@ -12,8 +12,7 @@ mod totals;
 mod words;
 
 pub use alone::{Status, run_alone};
-pub use script::{differences_are_reported, numbers_rise, play};
-pub use session::Session;
+pub use script::play;
 pub use words::{BadWords, Folders, Options, read_folders, read_words};
 
 #[cfg(test)]

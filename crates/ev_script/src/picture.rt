@@ -1,63 +1,77 @@
-// Pictures of a scene, and what the log tells of them.
-ghost use Rattle.std.specs.Prelude.{◌≡◌, OnOk, OnErr, IfOk, map, Some, length};
+// Pictures of which a part may be hidden, and what the log tells of them.
+ghost use Rattle.std.specs.Prelude.{◌≡◌, ◌<◌, ◌≤◌, OnOk, OnErr, map, length};
 ghost use Rattle.std.specs.List.{range_with_len};
-ghost use Rattle.ev_argb.specs.Grid.{IsWhole, row_of};
+ghost use Rattle.ev_argb.specs.Grid.{IsWhole};
 ghost use Rattle.ev_port.specs.Told.{GrowsBy, GrowsPart};
 ghost use Rattle.ev_port.specs.Causes.{HasCause};
-ghost use Rattle.ev_port.specs.Frame.{pixels_of};
 ghost use Rattle.ev_model.specs.Answer.{DumpRow};
-ghost use Rattle.ev_model.specs.Paint.{IsRedrawn};
 ghost use Rattle.ev_model.specs.Text.{text, reply_text};
-ghost use Rattle.ev_scene.specs.Board.{board, stage_of};
-ghost use Rattle.ev_script.specs.Totals.{totals};
+ghost use Rattle.ev_canvas.specs.Totals.{totals};
+ghost use Rattle.ev_script.specs.Places.{unhidden, unhidden_row, place_row, places};
 
 use crate::totals::Totals;
-use ev_argb::{MAX_SIDE, NoMemory, Picture, Pixel};
+use ev_argb::{MAX_SIDE, Picture, Pixel};
 use ev_lang::write_reply;
-use ev_model::{Reply, full_redraw};
+use ev_model::Reply;
 use ev_port::{Failed, Sink};
-use ev_scene::SceneBox;
-use std::alloc::Global;
+use ev_region::Region;
 
-/// A full redraw of the scene. NoMemory: there is no room for it.
-pub fn redrawn(alloc: Global, scene: &SceneBox) -> Result<Picture, NoMemory>
-    ensures { IfOk result (IsRedrawn (stage_of (board scene.now))) }
-{
-    let captured = scene.capture()?;
-    let scene = captured.scene();
-    let mut picture = Picture::new(alloc, scene.w, scene.h)?;
-    full_redraw(scene, &mut picture);
-    Ok(picture)
-}
+/// The longest row, in pixels.
+pub const ROW: usize = MAX_SIDE as usize;
 
-/// All rows of a picture, from the top.
-pub fn write_rows<K: Sink>(sink: &mut K, picture: &Picture) -> Result<(), Failed>
+/// All rows of a picture, from the top, with nothing where a pixel is hidden.
+pub fn write_rows<K: Sink>(sink: &mut K, picture: &Picture, hidden: &Region) -> Result<(), Failed>
     requires { IsWhole picture.now }
     ensures ok { OnOk result (GrowsBy (K.written sink.old) (K.written sink.new)
-        (text (map (λ y. DumpRow (map Some (row_of picture.now y))) (range_with_len 0 picture.now.h)))) }
+        (text (map (λ y. DumpRow (place_row hidden.now picture.now y)) (range_with_len 0 picture.now.h)))) }
     ensures err { OnErr result (GrowsPart (K.written sink.old) (K.written sink.new)
-        (text (map (λ y. DumpRow (map Some (row_of picture.now y))) (range_with_len 0 picture.now.h)))) }
+        (text (map (λ y. DumpRow (place_row hidden.now picture.now y)) (range_with_len 0 picture.now.h)))) }
     ensures cause { HasCause (K.faults sink.old) (K.faults sink.new) result }
 {
-    let mut row = [Pixel::CLEAR; MAX_SIDE as usize];
-    let pixels = &mut row[..picture.width() as usize];
-    let mut shown = [None; MAX_SIDE as usize];
-    let places = &mut shown[..picture.width() as usize];
+    let mut shown = [None; ROW];
+    let row = &mut shown[..picture.width() as usize];
     for y in 0..picture.height() {
-        picture.row(y, pixels);
-        show_all(pixels, places);
-        write_row(sink, places)?;
+        show_row(picture, hidden, y, row);
+        write_row(sink, row)?;
     }
     Ok(())
 }
 
-// The places of a row none of whose pixels was hidden.
-fn show_all(pixels: &[Pixel], places: &mut [Option<Pixel>])
-    requires { length places.old ≡ length pixels.now }
-    ensures { places.new ≡ map Some pixels.now }
+/// Row y of a picture, from the left, with nothing where a pixel is hidden.
+pub fn show_row(picture: &Picture, hidden: &Region, y: u32, places: &mut [Option<Pixel>])
+    requires whole { IsWhole picture.now }
+    requires row { y < picture.now.h }
+    requires length { length places.old ≡ picture.now.w }
+    ensures { places.new ≡ place_row hidden.now picture.now y }
 {
-    for x in 0..pixels.len() {
-        places[x] = Some(pixels[x]);
+    let mut row = [Pixel::CLEAR; ROW];
+    let pixels = &mut row[..picture.width() as usize];
+    picture.row(y, pixels);
+    hide(pixels, hidden, y, places);
+}
+
+// The pixels of row y, with nothing where one is hidden.
+fn hide(pixels: &[Pixel], hidden: &Region, y: u32, places: &mut [Option<Pixel>])
+    requires row { y < 4096 }
+    requires width { length pixels.now ≤ 4096 }
+    requires length { length places.old ≡ length pixels.now }
+    ensures { places.new ≡ unhidden_row hidden.now y pixels.now }
+{
+    for x in 0..places.len() {
+        places[x] = unhidden(hidden, x as u32, y, pixels[x]);
+    }
+}
+
+// A pixel, unless its place is hidden.
+fn unhidden(hidden: &Region, x: u32, y: u32, pixel: Pixel) -> Option<Pixel>
+    requires column { x < 4096 }
+    requires row { y < 4096 }
+    ensures { result ≡ unhidden hidden.now x y pixel }
+{
+    if hidden.has(x as i32, y as i32) {
+        None
+    } else {
+        Some(pixel)
     }
 }
 
@@ -69,12 +83,12 @@ fn write_row<K: Sink>(sink: &mut K, pixels: &[Option<Pixel>]) -> Result<(), Fail
     write_reply(sink, &Reply::DumpRow { pixels })
 }
 
-/// The totals of a picture.
-pub fn write_totals<K: Sink>(sink: &mut K, picture: &Picture) -> Result<(), Failed>
+/// The totals of a picture, without what is hidden.
+pub fn write_totals<K: Sink>(sink: &mut K, picture: &Picture, hidden: &Region) -> Result<(), Failed>
     requires { IsWhole picture.now }
-    ensures ok { OnOk result (GrowsBy (K.written sink.old) (K.written sink.new) (reply_text (totals (pixels_of picture.now)))) }
-    ensures err { OnErr result (GrowsPart (K.written sink.old) (K.written sink.new) (reply_text (totals (pixels_of picture.now)))) }
+    ensures ok { OnOk result (GrowsBy (K.written sink.old) (K.written sink.new) (reply_text (totals (places hidden.now picture.now)))) }
+    ensures err { OnErr result (GrowsPart (K.written sink.old) (K.written sink.new) (reply_text (totals (places hidden.now picture.now)))) }
     ensures cause { HasCause (K.faults sink.old) (K.faults sink.new) result }
 {
-    write_reply(sink, &Totals::of(picture).reply())
+    write_reply(sink, &Totals::of(picture, hidden).reply())
 }

@@ -197,6 +197,44 @@ const LOADS: [(&[u8], &[u8]); 8] = [
     ),
 ];
 
+// Frames that update what changed: an object that appears over four cells, and in the last cell; one that
+// moves, and that doesn't; areas that are hidden, cleared and damaged; and what is refused.
+const UPDATES: [(&[u8], &[u8]); 5] = [
+    (
+        b"size 20 20\nrender\nrect r\nmove r 7 7\nresize r 2 2\nshow r\nrender\n",
+        b"shown 1 20 20 1\nupdate 0 0 20 20\nshown 2 20 20 1\nupdate 0 0 16 16\n",
+    ),
+    (
+        b"size 20 20\nrender\nrect r\nmove r 18 18\nresize r 1 1\nshow r\nrender\n",
+        b"shown 1 20 20 1\nupdate 0 0 20 20\nshown 2 20 20 1\nupdate 16 16 4 4\n",
+    ),
+    (
+        b"size 20 20\nrect r\nresize r 2 2\nshow r\nrender\nmove r 10 10\nrender\nmove r 0 0\nrender\nrender\nsum\n",
+        b"shown 1 20 20 1\nupdate 0 0 20 20\nshown 2 20 20 2\nupdate 0 0 8 8\nupdate 8 8 8 8\nshown 3 20 20 2\nupdate 0 0 8 8\nupdate 8 8 8 8\nshown 4 20 20 0\nsum 1020 1020 1020 1020 46920\n",
+    ),
+    (
+        b"size 4 1\nrect r\nresize r 4 1\nshow r\nhide-area 1 0 2 1\nrender\ndump\nsum\nclear-areas\nrender\ndump\n",
+        b"shown 1 4 1 2\nupdate 0 0 1 1\nupdate 3 0 1 1\nffffffff -------- -------- ffffffff\nsum 510 510 510 510 5100\nshown 2 4 1 1\nupdate 1 0 2 1\nffffffff ffffffff ffffffff ffffffff\n",
+    ),
+    (
+        b"size 16 8\nhide-area 4 0 4 8\nrender\nrender\ndamage 0 0 1 1\nrender\nhide-area 0 0 -1 1\ndamage 0 0 1000001 0\n",
+        b"shown 1 16 8 2\nupdate 0 0 4 8\nupdate 8 0 8 8\nshown 2 16 8 0\nshown 3 16 8 1\nupdate 0 0 4 8\nrefused range 7\nrefused range 8\n",
+    ),
+];
+
+#[test]
+fn logs_of_updates(rt: HostRuntime) -> Result<(), Fail> {
+    for (script, log) in UPDATES {
+        compare(&rt, &[], script, &NEVER, Status::Ok, log)?;
+    }
+    // two equal records that change their order, in cells of one pixel
+    let script: &[u8] =
+        b"size 16 8\nrect a\nresize a 4 4\ncolor a 255 0 0 255\nshow a\nrect b\nmove b 2 2\nresize b 4 4\ncolor b 0 0 255 255\nshow b\nrender\nraise a\nrender\n";
+    let log: &[u8] = b"shown 1 16 8 1\nupdate 0 0 16 8\nshown 2 16 8 1\nupdate 2 2 2 2\n";
+    compare(&rt, &["--cell", "1"], script, &NEVER, Status::Ok, log)?;
+    Ok(())
+}
+
 #[test]
 fn logs_of_loads(rt: HostRuntime) -> Result<(), Fail> {
     for (script, log) in LOADS {

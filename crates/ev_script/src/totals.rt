@@ -1,12 +1,15 @@
 // The totals of a picture.
 ghost use Rattle.std.specs.Prelude.{◌≡◌, ◌≤◌, ◌<◌, ◌+◌, ◌^◌, fold, length};
 ghost use Rattle.ev_argb.specs.Grid.{IsWhole};
-ghost use Rattle.ev_port.specs.Frame.{pixels_of};
 ghost use Rattle.ev_model.specs.Answer.{answer};
-ghost use Rattle.ev_script.specs.Totals.{totals, told, none, with_pixel};
+ghost use Rattle.ev_script.specs.Places.{places};
+ghost use Rattle.ev_script.specs.Totals.{told, none, with_pixel, with_place};
+ghost use Rattle.ev_canvas.specs.Totals.{totals};
 
-use ev_argb::{MAX_SIDE, Picture, Pixel};
+use crate::picture::{ROW, show_row};
+use ev_argb::{Picture, Pixel};
 use ev_model::Reply;
+use ev_region::Region;
 use std::marker::Model;
 
 /// Totals of pixels: of each channel, and of all channels, where each pixel counts by its place from 1
@@ -32,17 +35,17 @@ impl Model for Totals {
 }
 
 impl Totals {
-    /// The totals of a whole picture.
-    pub fn of(picture: &Picture) -> Totals
+    /// The totals of a whole picture, without the pixels that are hidden.
+    pub fn of(picture: &Picture, hidden: &Region) -> Totals
         requires { IsWhole picture.now }
-        ensures { told result ≡ totals (pixels_of picture.now) }
+        ensures { told result ≡ totals (places hidden.now picture.now) }
     {
-        let mut row = [Pixel::CLEAR; MAX_SIDE as usize];
-        let pixels = &mut row[..picture.width() as usize];
+        let mut shown = [None; ROW];
+        let row = &mut shown[..picture.width() as usize];
         let mut totals = Totals::new();
         for y in 0..picture.height() {
-            picture.row(y, pixels);
-            totals.add_row(pixels);
+            show_row(picture, hidden, y, row);
+            totals.add_row(row);
         }
         totals
     }
@@ -73,13 +76,31 @@ impl Totals {
         }
     }
 
-    fn add_row(&mut self, pixels: &[Pixel])
-        requires { self.old.count + length pixels.now ≤ 2 ^ 24 }
-        ensures { self.new ≡ fold with_pixel self.old pixels.now }
+    fn add_row(&mut self, places: &[Option<Pixel>])
+        requires { self.old.count + length places.now ≤ 2 ^ 24 }
+        ensures { self.new ≡ fold with_place self.old places.now }
     {
-        for pixel in pixels {
-            self.add(*pixel);
+        for pixel in places {
+            self.add_place(*pixel);
         }
+    }
+
+    fn add_place(&mut self, place: Option<Pixel>)
+        requires { self.old.count < 2 ^ 24 }
+        ensures place { self.new ≡ with_place self.old place }
+        ensures count { self.new.count ≡ self.old.count + 1 }
+    {
+        match place {
+            Some(pixel) => self.add(pixel),
+            None => self.skip(),
+        }
+    }
+
+    fn skip(&mut self)
+        requires { self.old.count < 2 ^ 24 }
+        ensures { self.new ≡ record self.old { count = self.old.count + 1 } }
+    {
+        self.count += 1;
     }
 
     fn add(&mut self, p: Pixel)

@@ -1,5 +1,5 @@
 // The words of a run.
-ghost use Rattle.std.specs.Prelude.{◌≡◌, ◌≤◌, ◌↔◌, false, length, option_map, IfOk, IsErrOf, Ok, Err, if◌then◌else◌, codes, string_bytes};
+ghost use Rattle.std.specs.Prelude.{◌≡◌, ◌≤◌, ◌↔◌, false, length, option_map, IfOk, IfSome, IsErrOf, Ok, Err, if◌then◌else◌, codes, string_bytes};
 ghost use Rattle.ev_script.specs.Status.{texts};
 ghost use Rattle.ev_script.specs.Words.{are_pairs, begins_dash, buffers, cell, is_of_kind, number_or, options_of, takes, value_of, workers};
 
@@ -58,11 +58,22 @@ pub fn read_words(words: &[&str]) -> Result<Options, BadWords>
     if !are_pairs(words) {
         return Err(BadWords::Usage);
     }
-    Ok(Options {
+    Ok(options_of(words))
+}
+
+/// What the words give to each option, each within its range.
+pub(crate) fn options_of(words: &[&str]) -> Options
+    ensures options { result ≡ options_of (texts words.now) }
+    ensures cell_low { 1 ≤ result.cell }
+    ensures cell_high { result.cell ≤ 64 }
+    ensures buffers_low { 1 ≤ result.buffers }
+    ensures buffers_high { result.buffers ≤ 3 }
+{
+    Options {
         workers: workers_given(words),
         buffers: buffers_given(words),
         cell: cell_given(words),
-    })
+    }
 }
 
 /// Reads the folders that the words of a run name, with `--store` and `--frames`. `Usage`: exactly as
@@ -156,15 +167,25 @@ fn workers_given(words: &[&str]) -> u32
 }
 
 fn buffers_given(words: &[&str]) -> u32
-    ensures { result ≡ number_or 2 buffers (value_of (codes "--buffers") (texts words.now)) }
+    ensures value { result ≡ number_or 2 buffers (value_of (codes "--buffers") (texts words.now)) }
+    ensures low { 1 ≤ result }
+    ensures high { result ≤ 3 }
 {
-    value_of("--buffers", words).and_then(buffers).unwrap_or(2)
+    let Some(value) = value_of("--buffers", words) else {
+        return 2;
+    };
+    buffers(value).unwrap_or(2)
 }
 
 fn cell_given(words: &[&str]) -> u32
-    ensures { result ≡ number_or 8 cell (value_of (codes "--cell") (texts words.now)) }
+    ensures value { result ≡ number_or 8 cell (value_of (codes "--cell") (texts words.now)) }
+    ensures low { 1 ≤ result }
+    ensures high { result ≤ 64 }
 {
-    value_of("--cell", words).and_then(cell).unwrap_or(8)
+    let Some(value) = value_of("--cell", words) else {
+        return 8;
+    };
+    cell(value).unwrap_or(8)
 }
 
 // How many workers a value asks for.
@@ -177,7 +198,8 @@ fn workers(value: &str) -> Option<u32>
 
 // How many buffers a value asks for.
 fn buffers(value: &str) -> Option<u32>
-    ensures { result ≡ buffers value.now }
+    ensures value { result ≡ buffers value.now }
+    ensures range { IfSome result (λ n. (1 ≤ n) × (n ≤ 3)) }
 {
     let n = natural(value.as_bytes())?;
     if 1 <= n && n <= 3 {
@@ -189,7 +211,8 @@ fn buffers(value: &str) -> Option<u32>
 
 // The side of a cell that a value asks for, in pixels.
 fn cell(value: &str) -> Option<u32>
-    ensures { result ≡ cell value.now }
+    ensures value { result ≡ cell value.now }
+    ensures range { IfSome result (λ n. (1 ≤ n) × (n ≤ 64)) }
 {
     let n = natural(value.as_bytes())?;
     if [1, 2, 4, 8, 16, 32, 64].contains(&n) {

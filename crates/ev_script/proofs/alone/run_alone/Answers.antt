@@ -10,8 +10,5 @@ returns-in-Err-Failed-clause-in_order g c = none_in_order _
 pub returns-in-Err-TooLong-clause-in_order : goal.returns-in-Err-TooLong-clause-in_order
 returns-in-Err-TooLong-clause-in_order g c = none_in_order _
 
-pub returns-clause-in_order : goal.returns-clause-in_order
-returns-clause-in_order g c = none_in_order _
-
-pub returns-in_default-clause-in_order : goal.returns-in_default-clause-in_order
-returns-in_default-clause-in_order g c = none_in_order _
+pub returns-in-Err-NoMemory-clause-in_order : goal.returns-in-Err-NoMemory-clause-in_order
+returns-in-Err-NoMemory-clause-in_order g c = none_in_order _
