@@ -1,22 +1,13 @@
 #!/usr/bin/env bash
 # What images and texts cost a pixel, beside loops written by hand in C in the same run: to read an image of 64 MiB,
 # and rows of 64 pixels of images and of a text. It wants gcc. The program of our side is made and proved in a
-# temporary folder, or in the folder that is given, which a later run may use again: the proofs of the crates take
-# some minutes where `rt` kept none.
+# temporary folder, or in the folder that is given.
 set -eu
 top="$(cd "$(dirname "$0")/.." && pwd)"
-if [ $# -gt 0 ]; then
-    made="$1"
-else
-    made="$(mktemp -d)"
-    trap 'rm -rf "$made"' EXIT
-fi
+. "$top/bench/crates.sh"
+folder_for_run "$@"
+copy_crates ev_argb ev_geom ev_state ev_model ev_image ev_fill ev_text
 mkdir -p "$made/crates/bench_images/src"
-for name in ev_argb ev_geom ev_state ev_model ev_image ev_fill ev_text; do
-    mkdir -p "$made/crates/$name"
-    cp -r "$top/crates/$name/." "$made/crates/$name/"
-done
-grep -E '^(ev_argb|ev_geom|ev_state|ev_model|ev_image|ev_fill|ev_text):' "$top/crates.txt" >"$made/crates.txt"
 echo 'bench_images: ev_argb ev_model ev_image ev_fill ev_text anyhow' >>"$made/crates.txt"
 cat >"$made/crates/bench_images/src/main.rt" <<'END'
 //! What images and texts cost.
@@ -212,7 +203,7 @@ fn main(rt: HostRuntime) -> Result<()> {
 }
 END
 gcc -O3 -msse2 -Wall -Wextra -o "$made/by_hand" "$top/bench/images.c"
-(cd "$made/crates/bench_images" && rt run >"$made/ours.txt" 2>"$made/log") || { tail -20 "$made/log"; exit 1; }
+run_program bench_images "$made/ours.txt"
 "$made/by_hand" >"$made/by_hand.txt"
 echo "processors: $(nproc), wanted by $(cut -d' ' -f1 /proc/loadavg) processes in the last minute"
 printf '%-12s %14s %14s %8s\n' case 'ns a pixel' 'by hand' ratio

@@ -3,19 +3,12 @@
 # their ratio. It wants gcc and libpixman-1-dev. The program of our side is made and proved in a temporary folder.
 set -eu
 top="$(cd "$(dirname "$0")/.." && pwd)"
-made="${1:-$(mktemp -d)}"
-mkdir -p "$made/crates"
-for name in ev_geom ev_region; do
-    mkdir -p "$made/crates/$name"
-    for part in src specs proofs; do
-        rm -rf "$made/crates/$name/$part"
-        cp -r "$top/crates/$name/$part" "$made/crates/$name/"
-    done
-    [ -e "$made/crates/$name/out" ] || [ ! -e "$top/crates/$name/out" ] || cp -r "$top/crates/$name/out" "$made/crates/$name/"
-done
+. "$top/bench/crates.sh"
+folder_for_run "$@"
+copy_crates ev_geom ev_region
 crate="$made/crates/bench_region"
 mkdir -p "$crate/src" "$crate/proofs/added"
-printf 'ev_geom:\nev_region: ev_geom\nbench_region: ev_geom ev_region anyhow\n' >"$made/crates.txt"
+echo 'bench_region: ev_geom ev_region anyhow' >>"$made/crates.txt"
 cat >"$crate/src/main.rt" <<'END'
 //! What operations of regions cost.
 #![tactic(auto)]
@@ -220,6 +213,6 @@ add_rect-requires c = λ wide high. record {
 }
 END
 gcc -O2 -o "$made/pixman" "$top/bench/regions.c" $(pkg-config --cflags --libs pixman-1)
-(cd "$crate" && ${RT:-rt} run >"$made/ours.txt" 2>"$made/log") || { tail -20 "$made/log"; exit 1; }
+run_program bench_region "$made/ours.txt"
 "$made/pixman" >"$made/theirs.txt"
 awk 'NR == FNR { theirs[$1] = $2; next } $1 in theirs { printf "%-28s %9d ns %9d ns %6.2f\n", $1, $2, theirs[$1], $2 / (theirs[$1] > 0 ? theirs[$1] : 1) }' "$made/theirs.txt" "$made/ours.txt"

@@ -25,7 +25,7 @@ use Rattle.ev_canvas.proofs.Reporting.{reported}
 use Rattle.ev_script.specs.Machine.{Step, Plays, losses_of, lost_frames, store_failures_of, store_failures}
 use Rattle.ev_script.specs.Outside.{Outside, Whole, Part}
 use Rattle.ev_script.specs.Session.{StandsFor, IsReady, Carried, Carries}
-use Rattle.ev_script.specs.Play.{script_lines, Played, Stopped}
+use Rattle.ev_script.specs.Play.{script_lines, IsPlayed, IsPlayedOn, IsStopped}
 
 -- the lines of a script that isn't empty
 lines_split : (b : ℕ) (bs : List ℕ) → lines (b ∷ bs) ≡ first_line (b ∷ bs) ∷ lines (after_line (b ∷ bs))
@@ -143,23 +143,26 @@ one_line cell files script before now after old new number (b ∷ bs) line behin
     }
 
 -- after the last line
-pub at_end : (cell : ℕ) (files : Option (List StoredFile)) (script : List ℕ) (before now : Outside) (canvas : Parts) (number : ℕ) (rest : List ℕ) → length rest ≡ 0 → SoFar cell files script before now canvas number rest → Played cell files script before now
+pub at_end : (cell : ℕ) (files : Option (List StoredFile)) (script : List ℕ) (before now : Outside) (canvas : Parts) (number : ℕ) (rest : List ℕ) → length rest ≡ 0 → SoFar cell files script before now canvas number rest → IsPlayedOn canvas cell files script before now
 at_end cell files script before now canvas number (b ∷ bs) none so_far = absurd (omega arith)
 at_end cell files script before now canvas number [] none so_far = record {
-  replies = so_far.replies;
-  final = so_far.state;
-  plays = subst (λ ls. Plays cell files opening 1 ls so_far.replies so_far.state) (sym (so_far.split ∙ append-nil so_far.answered)) so_far.plays;
-  log_grows = so_far.log_grows;
-  showings = so_far.showings;
-  shows = so_far.shows;
-  reported = reported cell so_far.state.starts so_far.showings so_far.sound.chain so_far.sound.comparable so_far.shows;
-  screen_grows = so_far.screen_grows;
-  losses = so_far.losses;
-  failures = so_far.failures;
+  played = record {
+    replies = so_far.replies;
+    final = so_far.state;
+    plays = subst (λ ls. Plays cell files opening 1 ls so_far.replies so_far.state) (sym (so_far.split ∙ append-nil so_far.answered)) so_far.plays;
+    log_grows = so_far.log_grows;
+    showings = so_far.showings;
+    shows = so_far.shows;
+    reported = reported cell so_far.state.starts so_far.showings so_far.sound.chain so_far.sound.comparable so_far.shows;
+    screen_grows = so_far.screen_grows;
+    losses = so_far.losses;
+    failures = so_far.failures;
+  };
+  stands = so_far.stands;
 }
 
 -- where the log failed within the replies to a line
-pub stopped : (cell : ℕ) (files : Option (List StoredFile)) (script : List ℕ) (before now after : Outside) (old new : Parts) (number : ℕ) (rest : List ℕ) (line : Line) (behind : List ℕ) → 0 < length rest → by_value line ≡ line_of (first_line rest) → behind ≡ after_line rest → SoFar cell files script before now old number rest → (here : Option (List StoredFile)) → here ≡ files → Carries Part cell here number line now after old new → Stopped cell files script before after
+pub stopped : (cell : ℕ) (files : Option (List StoredFile)) (script : List ℕ) (before now after : Outside) (old new : Parts) (number : ℕ) (rest : List ℕ) (line : Line) (behind : List ℕ) → 0 < length rest → by_value line ≡ line_of (first_line rest) → behind ≡ after_line rest → SoFar cell files script before now old number rest → (here : Option (List StoredFile)) → here ≡ files → Carries Part cell here number line now after old new → IsStopped cell files script before after
 stopped cell files script before now after old new number [] line behind some is behind_is so_far here same carries = absurd (omega arith)
 stopped cell files script before now after old new number (b ∷ bs) line behind some is behind_is so_far here same carries =
     let carried = moved same (carries so_far.state so_far.stands) in

@@ -9,8 +9,10 @@ use Rattle.ev_lang.specs.declared.line.Line.{Line}
 use Rattle.ev_lang.specs.Lines.{lines, line_of}
 use Rattle.ev_canvas.specs.Chain.{Showing, Shows, AreReported}
 use Rattle.ev_canvas.specs.Machine.{State, Turn, opening}
+use Rattle.ev_canvas.specs.Canvas.{Parts}
 use Rattle.ev_script.specs.Machine.{Step, Plays, lost_frames, store_failures}
 use Rattle.ev_script.specs.Outside.{Outside}
+use Rattle.ev_script.specs.Session.{StandsFor}
 
 -- what the lines of a script say
 abbrev pub script_lines : List ℕ → List Line
@@ -21,7 +23,7 @@ script_lines script = map line_of (lines script)
 -- hidden, and reports in what it differs from the one before. The screen failed at least once for each lost frame, and the
 -- store at least once for each load that is told as failed there. `files` are those of the store, where
 -- it tells them.
-pub record Played (cell : ℕ) (files : Option (List StoredFile)) (script : List ℕ) (before after : Outside) : Type 0 where
+pub record IsPlayed (cell : ℕ) (files : Option (List StoredFile)) (script : List ℕ) (before after : Outside) : Type 0 where
   pub replies : List Answer
   pub final : State
   pub plays : Plays cell files opening 1 (script_lines script) replies final
@@ -33,10 +35,15 @@ pub record Played (cell : ℕ) (files : Option (List StoredFile)) (script : List
   pub losses : RoseBy (lost_frames replies) before.faults after.faults
   pub failures : RoseBy (store_failures replies) before.store_faults after.store_faults
 
+-- the same on a canvas, which then stands for the state that the machine comes to
+pub record IsPlayedOn (canvas : Parts) (cell : ℕ) (files : Option (List StoredFile)) (script : List ℕ) (before after : Outside) : Type 0 where
+  pub played : IsPlayed cell files script before after
+  pub stands : StandsFor canvas played.final
+
 -- The log failed within the replies to a line. The lines before it were played and answered whole; of
 -- the replies to this one only a front was written. The screen has grown by the frames that the machine
 -- shows up to this line, which is carried out.
-pub record Stopped (cell : ℕ) (files : Option (List StoredFile)) (script : List ℕ) (before after : Outside) : Type 0 where
+pub record IsStopped (cell : ℕ) (files : Option (List StoredFile)) (script : List ℕ) (before after : Outside) : Type 0 where
   pub answered : List Line
   pub last : Line
   pub left : List Line

@@ -3,11 +3,11 @@ ghost use Rattle.std.specs.Prelude.{◌≡◌, ◌≤◌, ◌<◌, ◌^◌, fals
 ghost use Rattle.ev_port.specs.Causes.{Rose};
 ghost use Rattle.ev_script.specs.Outside.{outside};
 ghost use Rattle.ev_script.specs.Frames.{ShowsInOrder};
-ghost use Rattle.ev_script.specs.Play.{Played, Stopped, OfScript};
+ghost use Rattle.ev_script.specs.Play.{IsPlayed, IsStopped, OfScript};
 ghost use Rattle.ev_script.specs.Words.{are_pairs, options_of};
 ghost use Rattle.ev_script.specs.Status.{is_before_lines, is_too_long, is_usage, Takes, IsFine, texts};
 
-use crate::play;
+use crate::script::{Played, play_alone};
 use crate::source::{ReadError, read_script};
 use crate::words::{are_pairs, options_of};
 use ev_canvas::{Canvas, Setup};
@@ -43,10 +43,10 @@ pub fn run_alone<S: Source, K: Sink, T: Store, P: Screen>(
     store: &mut T,
     screen: &mut P,
 ) -> Status
-    ensures played { result ≡ Status.Ok → OfScript (Played (options_of (texts words.now)).cell (T.files store.old)) (S.left source.old) (S.left source.new)
+    ensures played { result ≡ Status.Ok → OfScript (IsPlayed (options_of (texts words.now)).cell (T.files store.old)) (S.left source.old) (S.left source.new)
         (outside (K.written sink.old) (P.shown screen.old) (P.faults screen.old) (T.faults store.old))
         (outside (K.written sink.new) (P.shown screen.new) (P.faults screen.new) (T.faults store.new)) }
-    ensures stopped { result ≡ Status.WriteFault → OfScript (Stopped (options_of (texts words.now)).cell (T.files store.old)) (S.left source.old) (S.left source.new)
+    ensures stopped { result ≡ Status.WriteFault → OfScript (IsStopped (options_of (texts words.now)).cell (T.files store.old)) (S.left source.old) (S.left source.new)
         (outside (K.written sink.old) (P.shown screen.old) (P.faults screen.old) (T.faults store.old))
         (outside (K.written sink.new) (P.shown screen.new) (P.faults screen.new) (T.faults store.new)) }
     ensures in_order { ShowsInOrder (P.shown screen.old) (P.shown screen.new) }
@@ -90,11 +90,11 @@ fn play_on_new<K: Sink, T: Store, P: Screen>(
     requires cell_high { setup.cell ≤ 64 }
     requires buffers_low { 1 ≤ setup.buffers }
     requires buffers_high { setup.buffers ≤ 3 }
-    requires short { length script.now < 2 ^ 30 }
-    ensures played { result ≡ Status.Ok → Played setup.cell (T.files store.old) script.now
+    requires short { length script.now ≤ 16777216 }
+    ensures played { result ≡ Status.Ok → IsPlayed setup.cell (T.files store.old) script.now
         (outside (K.written sink.old) (P.shown screen.old) (P.faults screen.old) (T.faults store.old))
         (outside (K.written sink.new) (P.shown screen.new) (P.faults screen.new) (T.faults store.new)) }
-    ensures stopped { result ≡ Status.WriteFault → Stopped setup.cell (T.files store.old) script.now
+    ensures stopped { result ≡ Status.WriteFault → IsStopped setup.cell (T.files store.old) script.now
         (outside (K.written sink.old) (P.shown screen.old) (P.faults screen.old) (T.faults store.old))
         (outside (K.written sink.new) (P.shown screen.new) (P.faults screen.new) (T.faults store.new)) }
     ensures in_order { ShowsInOrder (P.shown screen.old) (P.shown screen.new) }
@@ -110,8 +110,8 @@ fn play_on_new<K: Sink, T: Store, P: Screen>(
     let Ok(mut canvas) = Canvas::create(alloc, setup) else {
         return Status::NoMemory;
     };
-    match play(alloc, &mut canvas, script, sink, store, screen) {
-        Ok(()) => Status::Ok,
-        Err(_) => Status::WriteFault,
+    match play_alone(alloc, &mut canvas, script, sink, store, screen) {
+        Played::Ok => Status::Ok,
+        Played::WriteFault => Status::WriteFault,
     }
 }

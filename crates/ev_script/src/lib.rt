@@ -12,7 +12,7 @@ mod totals;
 mod words;
 
 pub use alone::{Status, run_alone};
-pub use script::play;
+pub use script::{Played, play_alone};
 pub use words::{BadWords, Folders, Options, read_folders, read_words};
 
 #[cfg(test)]

@@ -1,37 +1,49 @@
 // A whole script, line by line.
-ghost use Rattle.std.specs.Prelude.{◌≡◌, ◌<◌, ◌^◌, OnOk, OnErr, length};
-ghost use Rattle.ev_port.specs.Causes.{HasCause};
+ghost use Rattle.std.specs.Prelude.{◌≡◌, ◌≤◌, length, []};
+ghost use Rattle.ev_port.specs.Causes.{Rose};
 ghost use Rattle.ev_canvas.specs.Canvas.{opened};
 ghost use Rattle.ev_script.specs.Outside.{outside};
 ghost use Rattle.ev_script.specs.Frames.{ShowsInOrder};
-ghost use Rattle.ev_script.specs.Play.{Played, Stopped};
+ghost use Rattle.ev_script.specs.Play.{IsPlayedOn, IsStopped};
 
 use crate::session::carry_out;
 use ev_canvas::Canvas;
 use ev_lang::{first_line, read_line};
-use ev_port::{Failed, Screen, Sink, Store};
+use ev_port::{Screen, Sink, Store};
 use std::alloc::Global;
 
-/// Carries out all lines of a script on a new canvas. Failed: the sink failed, and the lines behind the
-/// one at which it failed weren't begun.
-pub fn play<K: Sink, T: Store, P: Screen>(
+/// How the lines of a script were carried out.
+#[derive(Clone, Copy, Debug, PartialEq, Eq)]
+pub enum Played {
+    /// All of them, and the whole log was written.
+    Ok,
+    /// The sink failed within the replies to a line, and the lines behind it weren't begun.
+    WriteFault,
+}
+
+/// Carries out the lines of a script one after another on a canvas that is as it was created
+/// (docs/SCRIPT.md, docs/CANVAS.md). The script has at most 16,777,216 bytes. Afterwards the canvas
+/// has the scene, the rectangles given and hidden, the starts and the loads that the lines leave, and
+/// all its events have been taken.
+pub fn play_alone<K: Sink, T: Store, P: Screen>(
     alloc: Global,
     canvas: &mut Canvas,
     script: &[u8],
     sink: &mut K,
     store: &mut T,
     screen: &mut P,
-) -> Result<(), Failed>
+) -> Played
     requires opening { canvas.old ≡ opened canvas.old.setup }
-    requires short { length script.now < 2 ^ 30 }
-    ensures played { OnOk result (Played canvas.old.setup.cell (T.files store.old) script.now
+    requires short { length script.now ≤ 16777216 }
+    ensures played { result ≡ Played.Ok → IsPlayedOn canvas.new canvas.old.setup.cell (T.files store.old) script.now
         (outside (K.written sink.old) (P.shown screen.old) (P.faults screen.old) (T.faults store.old))
-        (outside (K.written sink.new) (P.shown screen.new) (P.faults screen.new) (T.faults store.new))) }
-    ensures stopped { OnErr result (Stopped canvas.old.setup.cell (T.files store.old) script.now
+        (outside (K.written sink.new) (P.shown screen.new) (P.faults screen.new) (T.faults store.new)) }
+    ensures stopped { result ≡ Played.WriteFault → IsStopped canvas.old.setup.cell (T.files store.old) script.now
         (outside (K.written sink.old) (P.shown screen.old) (P.faults screen.old) (T.faults store.old))
-        (outside (K.written sink.new) (P.shown screen.new) (P.faults screen.new) (T.faults store.new))) }
+        (outside (K.written sink.new) (P.shown screen.new) (P.faults screen.new) (T.faults store.new)) }
+    ensures taken { canvas.new.events ≡ [] }
     ensures in_order { ShowsInOrder (P.shown screen.old) (P.shown screen.new) }
-    ensures cause { HasCause (K.faults sink.old) (K.faults sink.new) result }
+    ensures write_fault { result ≡ Played.WriteFault → Rose (K.faults sink.old) (K.faults sink.new) }
 {
     let mut rest = script;
     let mut number = 1;
@@ -42,8 +54,8 @@ pub fn play<K: Sink, T: Store, P: Screen>(
                 rest = after;
                 number += 1;
             }
-            Err(failed) => return Err(failed),
+            Err(_) => return Played::WriteFault,
         }
     }
-    Ok(())
+    Played::Ok
 }

@@ -1,4 +1,7 @@
 use super::*;
+use ev_canvas::{Canvas, Setup};
+use ev_geom::Rect;
+use ev_model::{Edit, Kind, Name, Refusal};
 use ev_port::{Bytes, MemScreen, MemSink, MemSource, MemStore, ScreenRoom, StoredFile};
 use std::alloc::Global;
 use std::process::Abort;
@@ -232,6 +235,49 @@ fn logs_of_updates(rt: HostRuntime) -> Result<(), Fail> {
         b"size 16 8\nrect a\nresize a 4 4\ncolor a 255 0 0 255\nshow a\nrect b\nmove b 2 2\nresize b 4 4\ncolor b 0 0 255 255\nshow b\nrender\nraise a\nrender\n";
     let log: &[u8] = b"shown 1 16 8 1\nupdate 0 0 16 8\nshown 2 16 8 1\nupdate 2 2 2 2\n";
     compare(&rt, &["--cell", "1"], script, &NEVER, Status::Ok, log)?;
+    Ok(())
+}
+
+// A canvas has the frames, the updates and the objects of the lines that were played on it.
+#[test]
+fn canvas_of_a_script(rt: HostRuntime) -> Result<(), Fail> {
+    let alloc = rt.alloc();
+    let room = ScreenRoom {
+        frames: 2,
+        updates: 2,
+        pixels: 800,
+    };
+    let setup = Setup {
+        buffers: 1,
+        cell: 4,
+    };
+    let mut canvas = Canvas::create(alloc, setup)?;
+    let mut sink = MemSink::new(alloc, 99, Vec::new(alloc))?;
+    let mut store = MemStore::new(files(alloc)?, Vec::new(alloc));
+    let mut screen = MemScreen::new(alloc, room, Vec::new(alloc))?;
+    let script: &[u8] =
+        b"size 20 20\nrect r\nresize r 2 2\nrender\nmove r 7 7\nshow r\nrender\nload r\n";
+    let log: &[u8] =
+        b"shown 1 20 20 1\nupdate 0 0 20 20\nshown 2 20 20 1\nupdate 4 4 8 8\nrefused kind 8\n";
+    let played = play_alone(
+        alloc,
+        &mut canvas,
+        script,
+        &mut sink,
+        &mut store,
+        &mut screen,
+    );
+    assert_eq!(rt; played, Played::Ok);
+    assert_eq!(rt; sink.written(), log);
+    assert_eq!(rt; canvas.frames(), 2);
+    let cells = Rect::new(4, 4, 8, 8).expect(&rt, "a rectangle");
+    assert_eq!(rt; canvas.updates().first(), Some(&cells));
+    let name = Name::read(b"r").expect(&rt, "a name");
+    let kind = Kind::Rect;
+    assert_eq!(rt;
+        canvas.edit(&Edit::Make { name, kind }),
+        Err(Refusal::Exists)
+    );
     Ok(())
 }
 

@@ -2,7 +2,7 @@ use Rattle.std.proofs.Common.{◌≡◌, ◌≤◌, ◌+◌, length}
 use Rattle.ev_script.specs.Outside.{outside}
 use Rattle.ev_script.specs.Session.{IsReady}
 use Rattle.ev_script.proofs.Playing.{SoFar}
-use Rattle.ev_script.proofs.script.play.Given as goal
+use Rattle.ev_script.proofs.script.play_alone.Given as goal
 
 abbrev pub invariant-loop-rest : goal.invariant-loop-rest
 invariant-loop-rest g l = record {

@@ -3,7 +3,7 @@ use Rattle.std.proofs.lemmas.Bool.Decides.{nat_tests}
 use Rattle.ev_lang.specs.Lines.{line_of}
 use Rattle.ev_script.proofs.Orders.{shown_in_order}
 use Rattle.ev_script.proofs.Playing.{at_start, one_line, at_end, stopped, stands_opened, ready_opened, recelled}
-use Rattle.ev_script.proofs.script.play.Goals as goal
+use Rattle.ev_script.proofs.script.play_alone.Goals as goal
 
 pub loop-rest-init : goal.loop-rest-init
 loop-rest-init g c = record {
@@ -30,12 +30,12 @@ loop-rest-preserved g c =
     }
 
 pub returns-clause-played : goal.returns-clause-played
-returns-clause-played g c =
+returns-clause-played g c = λ _.
     let none : length c.loop-rest.rest.now ≡ 0 = grind (arith, nat_tests, c.is_empty.ensures, c.loop-rest-test.false) in
     at_end _ _ _ _ _ c.loop-rest.canvas c.loop-rest.number c.loop-rest.rest.now none c.loop-rest.invariant.so_far
 
 pub returns-in-Err-clause-stopped : goal.returns-in-Err-clause-stopped
-returns-in-Err-clause-stopped g c =
+returns-in-Err-clause-stopped g c = λ _.
     let some : 0 < length c.loop-rest.rest.now = grind (arith, nat_tests, c.is_empty.ensures, c.loop-rest-test.true) in
     let line = c.read_line.ensures.says ∙ ap line_of c.first_line.ensures.line in
     stopped _ _ _ _ _ _ c.loop-rest.canvas c.carry_out.new.canvas c.loop-rest.number c.loop-rest.rest.now c.read_line.result c.first_line.result.1.now some line c.first_line.ensures.rest c.loop-rest.invariant.so_far _ c.loop-rest.invariant.files (recelled c.loop-rest.invariant.cell c.in-Err.ensures.cut)
@@ -47,5 +47,5 @@ returns-clause-in_order g c =
 
 pub returns-in-Err-clause-in_order : goal.returns-in-Err-clause-in_order
 returns-in-Err-clause-in_order g c =
-    let at = returns-in-Err-clause-stopped g c in
+    let at = returns-in-Err-clause-stopped g c refl in
     shown_in_order _ _ at.turn.after.starts at.showings at.shows at.screen_grows
