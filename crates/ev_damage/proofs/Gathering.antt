@@ -1,5 +1,5 @@
 -- Loops over records.
-use Rattle.std.proofs.Common.{◌≡◌, ◌≢◌, ℕ, zero, suc, ◌+◌, ◌<◌, ℤ, Bool, true, false, not, ◌&&◌, ◌||◌, ◌==◌, is_some, List, [], ◌∷◌, ◌++◌, map, filter_map, length, get_or, take, drop, take-append-drop, All, subst, ap₂, Option, Some, None, refl, sym, ap, ◌∙◌, arith, cond, nat_eq, IfSome}
+use Rattle.std.proofs.Common.{◌≡◌, ◌≢◌, ℕ, zero, suc, ◌+◌, ◌<◌, ℤ, Bool, true, false, not, ◌&&◌, ◌||◌, ◌==◌, is_some, List, [], ◌∷◌, ◌++◌, map, filter_map, length, get_or, take, drop, take-append-drop, All, subst, ap₂, Option, Some, None, refl, sym, ap, ◌∙◌, arith, cond, nat_eq}
 use Rattle.std.proofs.lemmas.Bool.{eqb-true, ne_eqb}
 use Rattle.std.proofs.lemmas.Grind.{common_steps}
 use Rattle.std.specs.HashMap.{HashMap, get}
@@ -17,7 +17,7 @@ use Rattle.ev_damage.specs.Marked.{is_marked, may_differ, AreMarked, AreKept}
 use Rattle.ev_damage.specs.Places.{place_of, place_of_id, placed_at, placed, Adds, IsIndex, HaveOwnIds}
 use Rattle.ev_damage.specs.declared.turned.Placed.{Placed}
 use Rattle.ev_damage.proofs.Adding.{adds_none, adds_both}
-use Rattle.ev_damage.proofs.Placing.{some_is, apart, record_at, found_in_map}
+use Rattle.ev_damage.proofs.Placing.{some_is, apart, record_at}
 use Rattle.ev_damage.proofs.Members.{neither}
 
 -- the looks of one more record

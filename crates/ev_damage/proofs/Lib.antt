@@ -8,4 +8,5 @@ pub mod Placing
 pub mod Turning
 pub mod Gathering
 pub mod Crossing
+pub mod Stepping
 mod Comparing

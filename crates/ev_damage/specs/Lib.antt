@@ -4,3 +4,4 @@ pub mod Marked
 pub mod Stay
 pub mod Places
 pub mod Small
+pub mod Step

@@ -6,6 +6,7 @@ ghost use Rattle.ev_damage.specs.Damage.{is_damaged};
 ghost use Rattle.ev_damage.specs.Marked.{AreMarked, AreKept};
 ghost use Rattle.ev_damage.specs.Places.{HaveOwnIds, MayBeIndex};
 
+use crate::in_step::{have_same_ids, in_step};
 use crate::marks::Marks;
 use crate::places::{FEW, are_in_step, index_of, places_of};
 use crate::turned::add_turned;
@@ -26,11 +27,14 @@ pub fn between(alloc: Global, old: &[Record], new: &[Record]) -> Result<Region, 
     requires new_areas { All (λ r. FitsRegion r.area) new.now }
     ensures { IfOk result (IsBandsOf (is_damaged (map look_of old.now) (map look_of new.now))) }
 {
-    let few = are_in_step(old, new) && are_in_step(new, old);
     let marks = Marks {
         any: true,
         ids: &[],
     };
+    if have_same_ids(old, new) {
+        return in_step(alloc, old, new, marks);
+    }
+    let few = are_in_step(old, new) && are_in_step(new, old);
     between_found(alloc, old, new, few, marks)
 }
 
@@ -53,11 +57,14 @@ pub fn between_marked(
     requires new_marked { AreMarked dirty.now (map look_of old.now) (map look_of new.now) }
     ensures { IfOk result (IsBandsOf (is_damaged (map look_of old.now) (map look_of new.now))) }
 {
-    let few = dirty.len() <= FEW && moved.len() <= FEW;
     let marks = Marks {
         any: FEW < dirty.len(),
         ids: dirty,
     };
+    if have_same_ids(old, new) {
+        return in_step(alloc, old, new, marks);
+    }
+    let few = dirty.len() <= FEW && moved.len() <= FEW;
     between_found(alloc, old, new, few, marks)
 }
 

@@ -2,6 +2,7 @@
 #![tactic(auto)]
 
 mod damage;
+mod in_step;
 mod laws;
 mod marks;
 mod places;

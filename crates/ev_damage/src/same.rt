@@ -29,7 +29,7 @@ fn same_area(one: &Rect, other: &Rect) -> bool
 fn same_colour(one: Pixel, other: Pixel) -> bool
     ensures { result ≡ same_colour one other }
 {
-    one.a() == other.a() && one.r() == other.r() && one.g() == other.g() && one.b() == other.b()
+    one == other
 }
 
 fn same_op(one: Op, other: Op) -> bool
