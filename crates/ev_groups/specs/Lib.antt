@@ -1,3 +1,4 @@
 pub mod Groups
 pub mod Walk
+pub mod Listed
 pub mod Lending

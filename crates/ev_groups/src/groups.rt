@@ -1,11 +1,13 @@
 // All groups of siblings.
-ghost use Rattle.std.specs.Prelude.{◌≡◌, ◌≢◌, ◌<◌, ◌++◌, ◌∷◌, [], length, None, Some, IfOk, OnOk, OnErr};
+ghost use Rattle.std.specs.Prelude.{◌≡◌, ◌≢◌, ◌<◌, ◌++◌, ◌∷◌, [], length, None, Some, IfSome, IfOk, OnOk, OnErr};
 ghost use Rattle.std.specs.Borrow.{sem};
+ghost use Rattle.ev_model.specs.Order.{in_order};
 ghost use Rattle.ev_stack.specs.Order.{layer_in, put_top};
-ghost use Rattle.ev_groups.specs.Groups.{place, group, with_group};
+ghost use Rattle.ev_groups.specs.Groups.{place, group, siblings, with_group};
 ghost use Rattle.ev_groups.specs.Lending.{LendsGroup};
 
 use crate::NoMemory;
+use crate::listed::Listed;
 use crate::slot::Slot;
 use ev_stack::Siblings;
 use std::alloc::Global;
@@ -20,16 +22,18 @@ pub struct Groups {
     top: Siblings,
     members: Vec<Slot>,
     none: Siblings,
+    listed: Option<Listed>,
 }
 
 impl Model for Groups {
     ghost use Rattle.std.specs.Prelude.{◌≡◌, ◌∷◌, [], ℕ, ℤ, List};
+    ghost use Rattle.ev_groups.specs.Listed.{IsListed};
 
     ghost Value = { List (List (ℕ × ℤ)) };
 
     ghost view = { λ groups. groups.top ∷ groups.members.items };
 
-    ghost invariant = { λ groups. groups.none ≡ [] };
+    ghost invariant = { λ groups. (groups.none ≡ []) × IsListed (groups.top ∷ groups.members.items) groups.listed };
 }
 
 impl Groups {
@@ -42,6 +46,7 @@ impl Groups {
             top: Siblings::new(alloc),
             members: Vec::new(alloc),
             none: Siblings::new(alloc),
+            listed: None,
         }
     }
 
@@ -54,6 +59,7 @@ impl Groups {
         ensures ok { OnOk result (self.new ≡ with_group self.old None (put_top (group self.old None) (length self.old) layer) ++ [] ∷ []) }
         ensures err { OnErr result (self.new ≡ self.old) }
     {
+        self.listed = None;
         self.members.reserve(1)?;
         let id = self.members.len() as u64 + 1;
         self.top.push_top(id, layer)?;
@@ -84,6 +90,7 @@ impl Groups {
         ensures value { IfOk result (λ siblings. siblings.now ≡ group self.old parent) }
         ensures empty { OnErr result (group self.old parent ≡ []) }
     {
+        self.listed = None;
         let place = place(parent);
         if place == 0 {
             return Ok(&mut self.top);
@@ -103,6 +110,35 @@ impl Groups {
     {
         if let Some(slot) = self.members.get_mut(id as usize - 1) {
             *slot = Slot::new();
+            self.listed = None;
+        }
+    }
+
+    /// Finds the order in which all objects are painted, so many levels of them, and keeps it until the
+    /// next call that changes a group. So long `collect` copies it where it is asked for all objects and
+    /// as many levels. Where there is no room for it, nothing is kept.
+    pub fn list_order(&mut self, levels: usize)
+        ensures { self.new ≡ self.old }
+    {
+        if self.kept_order(None, levels).is_some() {
+            return;
+        }
+        let mut ids = Vec::new(self.alloc);
+        self.listed = match self.walk(&mut ids, None, levels) {
+            Ok(()) => Some(Listed { levels, ids }),
+            Err(_) => None,
+        };
+    }
+
+    // The order that is kept, where it is that of the objects in this parent, so many levels of them.
+    pub(crate) fn kept_order(&self, root: Option<u64>, levels: usize) -> Option<&[u64]>
+        ensures { IfSome result (λ ids. ids.now ≡ in_order levels (siblings self.now) root) }
+    {
+        let listed = self.listed.as_ref()?;
+        if root.is_none() && listed.levels == levels {
+            Some(listed.ids.as_slice())
+        } else {
+            None
         }
     }
 }

@@ -2,6 +2,7 @@
 #![tactic(auto)]
 
 mod groups;
+mod listed;
 mod slot;
 mod walk;
 

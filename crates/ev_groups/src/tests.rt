@@ -34,3 +34,21 @@ fn one_stands_in_two(rt: HostRuntime) -> Result<(), Fail> {
     assert_eq!(rt; order(&rt, &groups, None, 9)?.as_slice(), [2].as_slice());
     Ok(())
 }
+
+#[test]
+fn listed_order_follows_changes(rt: HostRuntime) -> Result<(), Fail> {
+    let mut groups = Groups::new(rt.alloc());
+    groups.add(0)?;
+    groups.add(0)?;
+    groups.list_order(2);
+    assert_eq!(rt; order(&rt, &groups, None, 2)?.as_slice(), [1, 2].as_slice());
+    assert_eq!(rt; order(&rt, &groups, None, 0)?.as_slice(), [].as_slice());
+    assert_eq!(rt; order(&rt, &groups, Some(2), 2)?.as_slice(), [].as_slice());
+    groups.group_mut(Some(2))?.push_top(1, 0)?;
+    assert_eq!(rt; groups.group_mut(None)?.remove(1), Ok(()));
+    assert_eq!(rt; order(&rt, &groups, None, 2)?.as_slice(), [2, 1].as_slice());
+    groups.list_order(2);
+    groups.clear(2);
+    assert_eq!(rt; order(&rt, &groups, None, 2)?.as_slice(), [2].as_slice());
+    Ok(())
+}

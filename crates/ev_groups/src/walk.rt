@@ -31,6 +31,21 @@ impl Groups {
     ) -> Result<(), NoMemory>
         ensures { OnOk result (ids.new.items ≡ ids.old.items ++ in_order levels (siblings self.now) root) }
     {
+        if let Some(order) = self.kept_order(root, levels) {
+            return ids.extend_from_slice(order);
+        }
+        self.walk(ids, root, levels)
+    }
+
+    // The same by a walk from sibling to sibling.
+    pub(crate) fn walk(
+        &self,
+        ids: &mut Vec<u64>,
+        root: Option<u64>,
+        levels: usize,
+    ) -> Result<(), NoMemory>
+        ensures { OnOk result (ids.new.items ≡ ids.old.items ++ in_order levels (siblings self.now) root) }
+    {
         let mut frames = Vec::new(self.alloc());
         self.enter(&mut frames, root, levels)?;
         while let Some(frame) = frames.pop() {

@@ -3,7 +3,7 @@ use Rattle.ev_model.specs.Order.{in_order}
 use Rattle.ev_groups.specs.Groups.{siblings}
 use Rattle.ev_groups.specs.Walk.{ahead}
 use Rattle.ev_groups.proofs.Walking.{stepped, given, fewer}
-use Rattle.ev_groups.proofs.groups.Groups.collect.Goals as goal
+use Rattle.ev_groups.proofs.groups.Groups.walk.Goals as goal
 
 pub loop-frame-smaller : goal.loop-frame-smaller
 loop-frame-smaller c =

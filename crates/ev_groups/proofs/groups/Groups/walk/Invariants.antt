@@ -2,7 +2,7 @@ use Rattle.std.proofs.Common.{◌≡◌, ◌++◌, length}
 use Rattle.ev_model.specs.Order.{in_order}
 use Rattle.ev_groups.specs.Groups.{siblings}
 use Rattle.ev_groups.specs.Walk.{ahead}
-use Rattle.ev_groups.proofs.groups.Groups.collect.Given as goal
+use Rattle.ev_groups.proofs.groups.Groups.walk.Given as goal
 
 -- what was given, and what is ahead, are all
 abbrev pub invariant-loop-frame : goal.invariant-loop-frame
