@@ -57,9 +57,24 @@ impl SceneBox {
     {
         self.cast.capture()
     }
+
+    /// Keeps the order of painting, which each capture needs, until the next edit that restacks, makes
+    /// or deletes an object. Where there is no room for it, captures find it anew.
+    pub fn list_order(&mut self)
+        ensures { self.new ≡ self.old }
+    {
+        self.cast.list_order();
+    }
 }
 
 impl Cast {
+    // Keeps the order of painting until it changes.
+    fn list_order(&mut self)
+        ensures { self.new ≡ self.old }
+    {
+        self.groups.list_order(self.roll.len());
+    }
+
     fn capture(&self) -> Result<Captured, NoMemory>
         requires { IsCast self.now }
         ensures { IfOk result (λ c. stage c.scene ≡ stage_of (board_of self.now)) }

@@ -70,7 +70,7 @@ pub fn records(
         clippers: clippers(alloc, objects)?,
     };
     let mut known = HashMap::new(alloc);
-    let mut records = Vec::new(alloc);
+    let mut records = Vec::with_capacity(alloc, objects.as_slice().len())?;
     for state in objects.as_slice() {
         push_record(&ground, &mut known, &mut records, state)?;
     }
