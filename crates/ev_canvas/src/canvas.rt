@@ -122,6 +122,7 @@ impl Canvas {
         ensures started { IsStarted self.old.frames (stage_of (board self.old.scene)) result self.new.frames }
         ensures alone { self.new ≡ record self.old { frames = self.new.frames } }
     {
+        self.scene.list_order();
         self.frames.start(&self.scene)
     }
 
