@@ -1,3 +1,5 @@
+ghost use Rattle.std.specs.Prelude.{◌≡◌, ◌≤◌, length, [], IfOk};
+
 use super::*;
 use ev_canvas::{Canvas, Setup};
 use ev_geom::Rect;
@@ -238,6 +240,28 @@ fn logs_of_updates(rt: HostRuntime) -> Result<(), Fail> {
     Ok(())
 }
 
+// The canvas of a script that is carried out on a new one, with cells of 4 by 4.
+fn canvas_of(
+    alloc: Global,
+    script: &[u8],
+    sink: &mut MemSink,
+    store: &mut MemStore,
+    screen: &mut MemScreen,
+) -> Result<Canvas, Fail>
+    requires { length script.now ≤ 16777216 }
+    ensures { IfOk result (λ canvas. canvas.events ≡ []) }
+{
+    let setup = Setup {
+        buffers: 1,
+        cell: 4,
+    };
+    let mut canvas = Canvas::create(alloc, setup)?;
+    match play_alone(alloc, &mut canvas, script, sink, store, screen) {
+        Played::Ok => Ok(canvas),
+        Played::WriteFault => Err(Fail::new("a fault of the sink")),
+    }
+}
+
 // A canvas has the frames, the updates and the objects of the lines that were played on it.
 #[test]
 fn canvas_of_a_script(rt: HostRuntime) -> Result<(), Fail> {
@@ -247,27 +271,14 @@ fn canvas_of_a_script(rt: HostRuntime) -> Result<(), Fail> {
         updates: 2,
         pixels: 800,
     };
-    let setup = Setup {
-        buffers: 1,
-        cell: 4,
-    };
-    let mut canvas = Canvas::create(alloc, setup)?;
     let mut sink = MemSink::new(alloc, 99, Vec::new(alloc))?;
     let mut store = MemStore::new(files(alloc)?, Vec::new(alloc));
     let mut screen = MemScreen::new(alloc, room, Vec::new(alloc))?;
     let script: &[u8] =
         b"size 20 20\nrect r\nresize r 2 2\nrender\nmove r 7 7\nshow r\nrender\nload r\n";
+    let mut canvas = canvas_of(alloc, script, &mut sink, &mut store, &mut screen)?;
     let log: &[u8] =
         b"shown 1 20 20 1\nupdate 0 0 20 20\nshown 2 20 20 1\nupdate 4 4 8 8\nrefused kind 8\n";
-    let played = play_alone(
-        alloc,
-        &mut canvas,
-        script,
-        &mut sink,
-        &mut store,
-        &mut screen,
-    );
-    assert_eq!(rt; played, Played::Ok);
     assert_eq!(rt; sink.written(), log);
     assert_eq!(rt; canvas.frames(), 2);
     let cells = Rect::new(4, 4, 8, 8).expect(&rt, "a rectangle");
