@@ -153,11 +153,11 @@ static void measure(int count)
         keep_least(&least[0], captured - start);
         keep_least(&least[1], compared - captured);
         keep_least(&least[2], snapped - compared);
-        keep_least(&least[3], ended - start);
+        keep_least(&least[3], ended - snapped);
         pixman_region32_fini(&damage);
         pixman_region32_fini(&cells);
     }
-    const char *parts[4] = { "capture", "damage", "updates", "all" };
+    const char *parts[4] = { "capture", "damage", "updates", "drop" };
     for (int k = 0; k < 4; k++) printf("%d_%s %lu\n", count, parts[k], (unsigned long)least[k]);
 }
 

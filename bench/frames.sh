@@ -14,7 +14,8 @@ cat >"$crate/src/main.rt" <<'END'
 //! What a frame costs besides its pixels.
 #![tactic(auto)]
 
-ghost use Rattle.std.specs.Prelude.{◌≡◌, ◌≤◌};
+ghost use Rattle.std.specs.Prelude.{◌≤◌};
+ghost use Rattle.ev_model.specs.Limits.{IsEdit};
 
 use anyhow::{Context, Result, anyhow};
 use ev_damage::between;
@@ -35,7 +36,9 @@ fn name(n: u32) -> Result<Name> {
     Name::read(&text).context("a name")
 }
 
-fn edit(scene: &mut SceneBox, edit: &Edit) -> Result<()> {
+fn edit(scene: &mut SceneBox, edit: &Edit) -> Result<()>
+    requires { IsEdit edit.now }
+{
     match scene.edit(edit) {
         Ok(()) => Ok(()),
         Err(_) => Err(anyhow!("an edit is refused")),
@@ -64,43 +67,110 @@ fn touched(alloc: Global, before: &Captured, now: &Captured) -> Result<Region> {
     Ok(between(alloc, before.records(), now.records())?)
 }
 
-// A frame in which object n moved. Keeps the least times of its parts.
-fn round<R: Clock + AllocGlobal>(rt: &R, scene: &mut SceneBox, before: Captured, n: u32, least: &mut [u128; 4]) -> Result<Captured> {
-    let y = 300;
-    let x = i64::from(n % 700);
-    edit(scene, &Edit::Move { name: name(n)?, x, y })?;
+// What the parts of a frame took, in ns.
+#[derive(Clone, Copy)]
+struct Times {
+    capture: u128,
+    damage: u128,
+    updates: u128,
+    drop: u128,
+}
+
+fn time_capture<R: Clock>(rt: &R, scene: &mut SceneBox, took: &mut Times) -> Result<Captured> {
     let start = Instant::now(rt)?;
     scene.list_order();
     let now = scene.capture()?;
-    let captured = start.elapsed(rt)?.as_nanos();
-    let touched = touched(rt.alloc(), &before, &now)?;
-    let compared = start.elapsed(rt)?.as_nanos();
-    let cells = touched.snap(8, 1280, 720)?;
-    let snapped = start.elapsed(rt)?.as_nanos();
-    drop(before);
-    let all = start.elapsed(rt)?.as_nanos();
-    let times = [captured, compared.saturating_sub(captured), snapped.saturating_sub(compared), all];
-    for k in 0..4usize {
-        least[k] = least[k].min(times[k]);
-    }
-    let _ = cells.rects().len();
+    took.capture = start.elapsed(rt)?.as_nanos();
     Ok(now)
+}
+
+fn time_damage<R: Clock + AllocGlobal>(rt: &R, before: &Captured, now: &Captured, took: &mut Times) -> Result<Region> {
+    let start = Instant::now(rt)?;
+    let touched = touched(rt.alloc(), before, now)?;
+    took.damage = start.elapsed(rt)?.as_nanos();
+    Ok(touched)
+}
+
+fn time_updates<R: Clock>(rt: &R, touched: &Region, took: &mut Times) -> Result<()> {
+    let start = Instant::now(rt)?;
+    let cells = touched.snap(8, 1280, 720)?;
+    let _ = cells.rects().len();
+    took.updates = start.elapsed(rt)?.as_nanos();
+    Ok(())
+}
+
+fn time_drop<R: Clock>(rt: &R, before: Captured, took: &mut Times) -> Result<()> {
+    let start = Instant::now(rt)?;
+    drop(before);
+    took.drop = start.elapsed(rt)?.as_nanos();
+    Ok(())
+}
+
+// A frame after the one before.
+fn framed<R: Clock + AllocGlobal>(rt: &R, scene: &mut SceneBox, before: Captured, took: &mut Times) -> Result<Captured> {
+    let now = time_capture(rt, scene, took)?;
+    let touched = time_damage(rt, &before, &now, took)?;
+    time_updates(rt, &touched, took)?;
+    time_drop(rt, before, took)?;
+    Ok(now)
+}
+
+fn keep_least(least: &mut Times, took: &Times) {
+    least.capture = least.capture.min(took.capture);
+    least.damage = least.damage.min(took.damage);
+    least.updates = least.updates.min(took.updates);
+    least.drop = least.drop.min(took.drop);
+}
+
+fn moved(scene: &mut SceneBox, n: u32) -> Result<()> {
+    let name = name(n)?;
+    edit(scene, &Edit::Move { name, x: i64::from(n % 700), y: 300 })
+}
+
+fn unmeasured() -> Times {
+    Times {
+        capture: u128::MAX,
+        damage: u128::MAX,
+        updates: u128::MAX,
+        drop: u128::MAX,
+    }
+}
+
+// Object n moves, and a frame follows. Keeps the least times of its parts.
+fn round<R: Clock + AllocGlobal>(rt: &R, scene: &mut SceneBox, before: Captured, n: u32, least: &mut Times) -> Result<Captured> {
+    moved(scene, n)?;
+    let mut took = unmeasured();
+    let now = framed(rt, scene, before, &mut took)?;
+    keep_least(least, &took);
+    Ok(now)
+}
+
+fn rounds<R: Clock + AllocGlobal>(rt: &R, scene: &mut SceneBox, count: u32, least: &mut Times) -> Result<()>
+    requires { 1 ≤ count }
+{
+    let mut before = scene.capture()?;
+    for n in 0..1000u32 {
+        before = round(rt, scene, before, n % count, least)?;
+    }
+    drop(before);
+    Ok(())
+}
+
+fn tell<R: Print>(rt: &R, count: u32, least: &Times) -> Result<()> {
+    println!(rt; "{}_capture {}", count, least.capture)?;
+    println!(rt; "{}_damage {}", count, least.damage)?;
+    println!(rt; "{}_updates {}", count, least.updates)?;
+    println!(rt; "{}_drop {}", count, least.drop)?;
+    Ok(())
 }
 
 fn measure<R: Clock + AllocGlobal + Print>(rt: &R, count: u32) -> Result<()>
     requires { 1 ≤ count }
 {
     let mut scene = filled(rt.alloc(), count)?;
-    let mut before = scene.capture()?;
-    let mut least = [u128::MAX; 4];
-    for n in 0..1000u32 {
-        before = round(rt, &mut scene, before, n % count, &mut least)?;
-    }
-    let parts = ["capture", "damage", "updates", "all"];
-    for k in 0..4usize {
-        println!(rt; "{}_{} {}", count, parts[k], least[k])?;
-    }
-    Ok(())
+    let mut least = unmeasured();
+    rounds(rt, &mut scene, count, &mut least)?;
+    tell(rt, count, &least)
 }
 
 fn main(rt: HostRuntime) -> Result<()> {
