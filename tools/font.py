@@ -22,7 +22,8 @@ class Malformed(Exception):
     """A line that breaks the rules: its number and what is wrong."""
 
     def __init__(self, number, what):
-        super().__init__(f"line {number}: {what}")
+        shown = "".join(mark if mark.isprintable() else "?" for mark in what[:200])
+        super().__init__(f"line {number}: {shown}")
 
 
 class Lines:
@@ -93,10 +94,12 @@ def main():
     try:
         with open(source, encoding="ascii", errors="replace") as file:
             font = font_of(file.read())
-    except (OSError, Malformed) as fault:
+        with open(out, "wb") as file:
+            file.write(font)
+    except OSError as fault:
+        sys.exit(f"font.py: {fault.filename or source}: {fault.strerror}")
+    except Malformed as fault:
         sys.exit(f"font.py: {source}: {fault}")
-    with open(out, "wb") as file:
-        file.write(font)
 
 
 if __name__ == "__main__":

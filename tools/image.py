@@ -43,9 +43,10 @@ def unfiltered(data, width, height, step):
     above, rows = bytes(width * step), []
     for y in range(height):
         at = y * (width * step + 1)
-        kind, told, row = data[at], data[at + 1 : at + 1 + width * step], bytearray()
-        if kind > 4 or len(told) < width * step:
+        told, row = data[at + 1 : at + 1 + width * step], bytearray()
+        if len(told) < width * step or data[at] > 4:
             raise BadPicture(f"row {y} can't be read")
+        kind = data[at]
         for x, byte in enumerate(told):
             left, corner = (row[x - step], above[x - step]) if x >= step else (0, 0)
             row.append((byte + foretold(kind, left, above[x], corner)) % 256)
@@ -61,6 +62,8 @@ def pixel_of(kind, part, palette, alphas):
     if kind == 2:
         return 255, *part
     if kind == 3:
+        if len(palette) < 3 * part[0] + 3:
+            raise BadPicture(f"its palette has no colour {part[0]}")
         alpha = alphas[part[0]] if part[0] < len(alphas) else 255
         return alpha, *palette[3 * part[0] : 3 * part[0] + 3]
     if kind == 4:
@@ -81,7 +84,8 @@ def image_of(data):
         raise BadPicture("an image has 1 to 4096 columns and rows")
     step = STEPS[kind]
     packed = b"".join(body for name, body in parts if name == b"IDAT")
-    rows = unfiltered(zlib.decompress(packed), width, height, step)
+    data = zlib.decompressobj().decompress(packed, height * (width * step + 1))
+    rows = unfiltered(data, width, height, step)
     out = bytearray(b"EVI1" + struct.pack("<II", width, height))
     for row in rows:
         for x in range(0, len(row), step):
@@ -94,14 +98,16 @@ def image_of(data):
 def main():
     if len(sys.argv) != 3:
         sys.exit(__doc__)
-    with open(sys.argv[1], "rb") as file:
-        data = file.read()
+    source, out = sys.argv[1:]
     try:
-        image = image_of(data)
-    except (BadPicture, zlib.error, ValueError) as why:
-        sys.exit(f"image.py: {sys.argv[1]}: {why}")
-    with open(sys.argv[2], "wb") as out:
-        out.write(image)
+        with open(source, "rb") as file:
+            image = image_of(file.read())
+        with open(out, "wb") as file:
+            file.write(image)
+    except OSError as fault:
+        sys.exit(f"image.py: {fault.filename or source}: {fault.strerror}")
+    except (BadPicture, zlib.error) as fault:
+        sys.exit(f"image.py: {source}: {fault}")
 
 
 if __name__ == "__main__":

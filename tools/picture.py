@@ -14,6 +14,11 @@ import sys
 import zlib
 
 ROW = re.compile(r"^[0-9a-f]{8}( [0-9a-f]{8})*$")
+MAX_SIDE = 4096
+
+
+class NoPicture(Exception):
+    """There is no picture in what was given."""
 
 
 def last_dump(lines):
@@ -28,16 +33,20 @@ def last_dump(lines):
             rows = []
         rows.append(pixels)
         found = rows
+    if not found:
+        raise NoPicture("the log has no dump")
     return found
 
 
 def rows_of_image(data):
-    """The rows of an image in EVI1. None where the bytes are no such image."""
+    """The rows of an image in EVI1."""
     if data[:4] != b"EVI1" or len(data) < 12:
-        return None
+        raise NoPicture("no image of the format EVI1")
     width, height = struct.unpack("<II", data[4:12])
+    if not (1 <= width <= MAX_SIDE and 1 <= height <= MAX_SIDE):
+        raise NoPicture(f"an image has 1 to {MAX_SIDE} columns and rows")
     if len(data) != 12 + 4 * width * height:
-        return None
+        raise NoPicture(f"an image of {width} by {height} pixels has other bytes than these")
     pixels = [data[at : at + 4] for at in range(12, len(data), 4)]
     return [pixels[width * y : width * (y + 1)] for y in range(height)]
 
@@ -79,23 +88,37 @@ def chunk(kind, body):
     return struct.pack(">I", len(body)) + kind + body + struct.pack(">I", zlib.crc32(kind + body))
 
 
+def scale(word):
+    """How often each pixel is repeated to the right and downwards."""
+    scale = int(word)
+    if scale < 1:
+        raise ValueError
+    return scale
+
+
+def rows_asked(image):
+    """The rows of this image, or of the log where none is named."""
+    if image is None:
+        return last_dump(line.decode("ascii", "replace").rstrip("\n") for line in sys.stdin.buffer)
+    with open(image, "rb") as file:
+        return rows_of_image(file.read())
+
+
 def main():
     words = argparse.ArgumentParser(description=__doc__, formatter_class=argparse.RawDescriptionHelpFormatter)
-    words.add_argument("--scale", type=int, default=1)
+    words.add_argument("--scale", type=scale, default=1)
     words.add_argument("--image", metavar="FILE.evi")
     words.add_argument("out", metavar="OUT.png")
     words = words.parse_args()
-    if words.image:
-        with open(words.image, "rb") as file:
-            rows = rows_of_image(file.read())
-        if not rows:
-            sys.exit(f"picture.py: {words.image} is no image of the format EVI1")
-    else:
-        rows = last_dump(line.rstrip("\n") for line in sys.stdin)
-        if not rows:
-            sys.exit("picture.py: the log has no dump")
-    with open(words.out, "wb") as out:
-        out.write(png(rows, words.scale))
+    source = words.image or "standard input"
+    try:
+        picture = png(rows_asked(words.image), words.scale)
+        with open(words.out, "wb") as out:
+            out.write(picture)
+    except OSError as fault:
+        sys.exit(f"picture.py: {fault.filename or source}: {fault.strerror}")
+    except NoPicture as fault:
+        sys.exit(f"picture.py: {source}: {fault}")
 
 
 if __name__ == "__main__":
