@@ -1,6 +1,6 @@
 #!/usr/bin/env bash
-# Quick checks of what no proof sees: the allowed handles, the layout, what the documents name, and the shell and Python
-# tools.
+# Quick checks of what no proof sees: the allowed handles, the layout, what the documents name, the shell and Python
+# tools, and the first command of README.md in a fresh copy (one to two minutes, nearly all of the time).
 set -u
 cd "$(dirname "$0")/.." || exit 2
 failed=0
@@ -94,5 +94,6 @@ if command -v python3 >/dev/null; then
   check_pictures
   check_fonts
 fi
+bash tools/first-command.sh || complain "the first command of README.md fails in a fresh copy"
 [ $failed = 0 ] && echo "quick-checks: ok"
 exit $failed
