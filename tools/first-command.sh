@@ -18,14 +18,22 @@ words_of() {
 
 # Folders are those of the caller, and all other words stay as they are. A program that prints its words stands for the real one.
 check_words() {
-  local out="$fresh/crates/evas_script/out" here="$fresh/examples"
+  local out="$fresh/crates/evas_script/out" here="$fresh/examples" option
   mkdir "$out"
   printf '#!/bin/sh\nprintf "%%s\\n" "$@"\n' > "$out/evas_script"
   chmod +x "$out/evas_script"
   [ "$(words_of --cell 4 --frames . --store panel/store)" = "--cell 4 --frames $here/. --store $here/panel/store " ] || complain "a relative folder isn't the caller's"
+  for option in $(sed -n 's/^| `\(--[a-z]*\)` | the \(folder\|file\) .*/\1/p' docs/SCRIPT.md); do
+    words_of "$option" sub | grep -qF -- "$option $here/sub " || complain "a relative path behind $option isn't the caller's"
+  done
   [ "$(words_of)" = "--store $here " ] || complain "without --store it isn't the caller's folder"
   [ "$(words_of --store /a --frames -b --store)" = "--store /a --frames -b --store " ] || complain "words that aren't relative folders change"
   rm -r "$out"
+}
+
+# Whether two PNGs show the same: they have the same bytes, or else the same pixels, since compressors differ.
+same_picture() {
+  cmp -s "$1" "$2" || { python3 tools/image.py "$1" "$fresh/one.evi" && python3 tools/image.py "$2" "$fresh/other.evi" && cmp -s "$fresh/one.evi" "$fresh/other.evi"; }
 }
 
 check_frames() {
@@ -34,9 +42,7 @@ check_frames() {
   command -v python3 >/dev/null || return
   for frame in 1 4 7; do
     python3 tools/picture.py --scale 3 --image "$fresh/frame-$frame.evi" "$fresh/made.png"
-    python3 tools/image.py "$fresh/made.png" "$fresh/made.evi"
-    python3 tools/image.py "examples/panel/frame-$frame.png" "$fresh/shown.evi"
-    cmp "$fresh/made.evi" "$fresh/shown.evi" || complain "examples/panel/frame-$frame.png isn't frame $frame"
+    same_picture "$fresh/made.png" "examples/panel/frame-$frame.png" || complain "examples/panel/frame-$frame.png isn't frame $frame"
   done
 }
 
