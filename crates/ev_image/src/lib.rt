@@ -13,6 +13,7 @@ mod writing;
 pub use fault::BadImage;
 pub use format::Format;
 pub use laws::{one_image, read_again};
+pub use pixels::channels;
 pub use reading::decode;
 pub use std::alloc::AllocError as NoMemory;
 pub use writing::{encode, encode2};

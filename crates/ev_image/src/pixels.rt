@@ -85,9 +85,9 @@ pub(crate) fn is_even(p: Pixel) -> bool
     p.r() == p.a() && p.g() == p.a() && p.b() == p.a()
 }
 
-// The bytes of a pixel.
+/// The four bytes of a pixel in EVI1: alpha, red, green and blue (docs/FORMATS.md, "Images").
 #[inline(always)]
-pub(crate) fn channels(p: Pixel) -> [u8; 4]
+pub fn channels(p: Pixel) -> [u8; 4]
     ensures { result ≡ channels p }
 {
     [p.a(), p.r(), p.g(), p.b()]

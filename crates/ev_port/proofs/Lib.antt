@@ -1,4 +1,3 @@
 pub mod Rows
 pub mod Laying
 pub mod Fitting
-pub mod Spelling

@@ -26,18 +26,6 @@ pub record HasStoreCause {T : Type 0} (before now : ℕ) (result : Result T Stor
 pub rose_by_none : (before now : ℕ) → before ≤ now → RoseBy 0 before now
 rose_by_none before now h = omega arith
 
--- a count that rose did so by 1
-pub rose_by_one : (before now : ℕ) → Rose before now → RoseBy 1 before now
-rose_by_one before now rose = rose
-
 -- one rise after another
 pub rose_by_on : (j k before between now : ℕ) → RoseBy j before between → RoseBy k between now → RoseBy (j + k) before now
 rose_by_on j k before between now first second = omega arith
-
--- a rise by more is a rise by less
-pub rose_by_less : (j k before now : ℕ) → j ≤ k → RoseBy k before now → RoseBy j before now
-rose_by_less j k before now h rose = omega arith
-
--- a rise stands, whatever came before it and after it
-pub rose_by_within : (k first before now last : ℕ) → first ≤ before → now ≤ last → RoseBy k before now → RoseBy k first last
-rose_by_within k first before now last earlier later rose = omega arith

@@ -5,4 +5,3 @@ pub mod Frame
 pub mod Calls
 pub mod Memory
 pub mod Flat
-pub mod Folder

@@ -1,6 +1,6 @@
 -- What an object outside holds, where it tells it. What is told when a call ends was told when it began.
 use Rattle.std.specs.Prelude.{◌≡◌, ℕ, ◌+◌, ◌-◌, ◌<◌, ◌^◌, min, List, [], ◌++◌, length, take, Option, Some, None, Result, MatchResult}
-use Rattle.std.proofs.Common.{refl, sym, ap, ◌∙◌, append_assoc, arith}
+use Rattle.std.proofs.Common.{refl, sym, ap, ◌∙◌, append_assoc}
 use Rattle.std.proofs.lemmas.List.{append-nil}
 
 -- what is told at the end has grown by these
@@ -67,21 +67,6 @@ Shrunk (Some before) (Some now) taken = before ≡ taken ++ now
 pub record ShrinksBy {A : Type 0} (old new : Option (List A)) (taken : List A) : Type 0 where
   pub shrunk : Shrunk old new taken
 
-taken_both : {A : Type 0} (a b c : Option (List A)) (xs ys : List A) → Shrunk a b xs → Shrunk b c ys → Shrunk a c (xs ++ ys)
-taken_both a b None xs ys first second = tt
-taken_both a None (Some c) xs ys first second = absurd second
-taken_both None (Some b) (Some c) xs ys first second = absurd first
-taken_both (Some a) (Some b) (Some c) xs ys first second = first ∙ ap (λ rest. xs ++ rest) second ∙ sym (append_assoc xs ys c)
-
--- nothing was taken
-pub shrinks_by_none : {A : Type 0} (told : Option (List A)) → ShrinksBy told told []
-shrinks_by_none None = record { shrunk = tt }
-shrinks_by_none (Some before) = record { shrunk = refl }
-
--- one taking after another
-pub shrinks_on : {A : Type 0} {a b c : Option (List A)} {xs ys : List A} → ShrinksBy a b xs → ShrinksBy b c ys → ShrinksBy a c (xs ++ ys)
-shrinks_on {a = a} {b = b} {c = c} {xs = xs} {ys = ys} first second = record { shrunk = taken_both a b c xs ys first.shrunk second.shrunk }
-
 -- nothing is left, where it is told
 abbrev pub IsAtEnd : {A : Type 0} → Option (List A) → Type 0
 IsAtEnd None = Unit {0}
@@ -96,19 +81,3 @@ ReadMoves old new result buf = MatchResult result
 -- a count of bytes after n more, which stays at its type's end
 abbrev pub counted : ℕ → ℕ → ℕ
 counted before n = min (before + n) (2 ^ 64 - 1)
-
--- after m more and n more
-pub counted_on : (before m n : ℕ) → counted (counted before m) n ≡ counted before (m + n)
-counted_on before m n = omega arith
-
--- after none
-pub counted_none : (before : ℕ) → before < 2 ^ 64 → counted before 0 ≡ before
-counted_none before h = omega arith
-
--- after two reads, one after the other
-pub counted_both : (before between now m n : ℕ) → between ≡ counted before m → now ≡ counted between n → now ≡ counted before (m + n)
-counted_both before between now m n first second = omega (arith, first, second)
-
--- a count that isn't at its end tells exactly how much it rose
-pub counted_exactly : (before now n : ℕ) → now ≡ counted before n → now < 2 ^ 64 - 1 → now ≡ before + n
-counted_exactly before now n e h = omega arith

@@ -36,7 +36,7 @@ impl Bytes {
     }
 }
 
-/// A file of a store: the key that names it, and its bytes (docs/ARCHITECTURE.md, The outside).
+/// A file of a store: the key that names it, and its bytes (docs/ARCHITECTURE.md, "The outside").
 #[derive(Drop)]
 pub struct StoredFile {
     pub key: Bytes,

@@ -9,7 +9,7 @@ use crate::calls::Calls;
 use crate::{Failed, Source};
 use std::marker::Model;
 
-/// A source over bytes (docs/ARCHITECTURE.md, The outside). It fails at the calls of `read` whose
+/// A source over bytes (docs/ARCHITECTURE.md, "The outside"). It fails at the calls of `read` whose
 /// numbers it was given, counted from 1, and nothing else changes then.
 #[derive(Drop)]
 pub struct MemSource {

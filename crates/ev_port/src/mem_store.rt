@@ -10,7 +10,7 @@ use crate::calls::Calls;
 use crate::{LARGEST_FILE, Store, StoreErr, StoredFile};
 use std::marker::Model;
 
-/// A store over files (docs/ARCHITECTURE.md, The outside). It fails at the calls of `fetch` whose
+/// A store over files (docs/ARCHITECTURE.md, "The outside"). It fails at the calls of `fetch` whose
 /// numbers it was given, counted from 1, and nothing else changes then.
 #[derive(Drop)]
 pub struct MemStore {

@@ -16,7 +16,7 @@ use ev_geom::Rect;
 #[derive(Clone, Copy, Debug, PartialEq, Eq)]
 pub struct Failed;
 
-/// Where a script comes from (docs/ARCHITECTURE.md, The outside).
+/// Where a script comes from (docs/ARCHITECTURE.md, "The outside").
 pub trait Source {
     /// The bytes that are left, where they are told.
     ghost left: { Self → Option (List ℕ) };
@@ -45,7 +45,7 @@ pub trait Source {
         ensures { result ≡ faults self.now };
 }
 
-/// Where a log goes (docs/ARCHITECTURE.md, The outside).
+/// Where a log goes (docs/ARCHITECTURE.md, "The outside").
 pub trait Sink {
     /// The bytes that were written, where they are told.
     ghost written: { Self → Option (List ℕ) };
@@ -77,7 +77,7 @@ pub enum StoreErr {
     NoMemory,
 }
 
-/// Where images and fonts come from (docs/ARCHITECTURE.md, The outside).
+/// Where images and fonts come from (docs/ARCHITECTURE.md, "The outside").
 pub trait Store {
     /// The files, where they are told. They never change. A key that stands twice means its first file.
     ghost files: { Self → Option (List StoredFile) };
@@ -101,7 +101,7 @@ pub trait Store {
         ensures { result ≡ faults self.now };
 }
 
-/// Where frames are shown (docs/ARCHITECTURE.md, The outside).
+/// Where frames are shown (docs/ARCHITECTURE.md, "The outside").
 pub trait Screen {
     /// The frames that were shown, where they are told.
     ghost shown: { Self → Option (List Frame) };

@@ -1,7 +1,8 @@
 //! Carries out the script of standard input, and writes its log to standard output.
 #![tactic(auto)]
 
-use ev_port::{FolderScreen, FolderStore, InSource, NoScreen, OutSink, Screen};
+use ev_edge::{FolderScreen, FolderStore, InSource, NoScreen, OutSink};
+use ev_port::Screen;
 use ev_script::{BadWords, Folders, Status, read_folders, run_alone};
 use std::alloc::{AllocError, Global};
 use std::env;

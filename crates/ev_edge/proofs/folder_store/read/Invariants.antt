@@ -1,6 +1,6 @@
 use Rattle.std.proofs.Common.{◌≤◌, ◌-◌, length}
 use Rattle.std.specs.Io.KnownBytes.{Consumes}
-use Rattle.ev_port.proofs.folder_store.read.Given as goal
+use Rattle.ev_edge.proofs.folder_store.read.Given as goal
 
 -- what was read is there
 abbrev pub invariant-loop-count : goal.invariant-loop-count

@@ -3,14 +3,15 @@ ghost use Rattle.std.specs.Prelude.{◌≡◌, ◌≤◌, [], ◌∷◌, is_err,
 ghost use Rattle.std.specs.Io.KnownBytes.{Appends};
 ghost use Rattle.ev_argb.specs.Grid.{IsWhole};
 ghost use Rattle.ev_port.specs.Causes.{HasCause};
-ghost use Rattle.ev_port.specs.Folder.{frame_bytes, frame_path};
+ghost use Rattle.ev_edge.specs.Folder.{frame_bytes, frame_path};
 ghost use Rattle.ev_port.specs.Frame.{Frame, frame_of};
 ghost use Rattle.ev_port.specs.Told.{GrowsBy, counted};
 
+use crate::NoMemory;
 use crate::frame_bytes::FrameBytes;
-use crate::{Failed, NoMemory, Screen};
 use ev_argb::Picture;
 use ev_geom::Rect;
+use ev_port::{Failed, Screen};
 use std::alloc::Global;
 use std::fs;
 use std::io::Write;
@@ -20,8 +21,8 @@ use std::rt::Files;
 const NAME: usize = 31;
 
 /// A screen that writes frame n to the file `frame-n.evi` of a folder, as an image of the format EVI1
-/// (docs/FORMATS.md, Images). A file of that name is replaced. Each error of the system is a fault. It
-/// takes all its room when it is made (docs/ARCHITECTURE.md, The outside).
+/// (docs/FORMATS.md, "Images"). A file of that name is replaced. Each error of the system is a fault. It
+/// takes all its room when it is made (docs/ARCHITECTURE.md, "The outside").
 #[derive(Drop)]
 pub struct FolderScreen<R: Files + Drop> {
     files: R,

@@ -1,16 +1,14 @@
-// The trusted edge: adapters over what the system gives. They tell no content.
+// A source over a reader and a sink over a writer. They tell no content.
 ghost use Rattle.std.specs.Prelude.{◌≡◌, ◌≤◌, length, is_err, IfOk, OnOk, OnErr, None, if◌then◌else◌};
 ghost use Rattle.std.specs.Io.KnownBytes.{Appends, ReadConsumes};
 ghost use Rattle.ev_port.specs.Causes.{HasCause};
 ghost use Rattle.ev_port.specs.Told.{GrowsBy, GrowsPart, ReadMoves, counted};
 
-use crate::{Failed, Screen, Sink, Source};
-use ev_argb::Picture;
-use ev_geom::Rect;
+use ev_port::{Failed, Sink, Source};
 use std::io::{Read, Write};
 
 /// A source over a reader, as standard input: `InSource::new(rt.reader())`. An error of the reader is a
-/// fault (docs/ARCHITECTURE.md, The outside).
+/// fault (docs/ARCHITECTURE.md, "The outside").
 #[derive(Drop)]
 pub struct InSource<R: Read + Drop> {
     reader: R,
@@ -69,7 +67,7 @@ impl<R: Read + Drop> Source for InSource<R> {
 }
 
 /// A sink over a writer, as standard output: `OutSink::new(io::writer(&rt))`. Each piece goes out whole
-/// before its call ends, and an error of the writer is a fault (docs/ARCHITECTURE.md, The outside).
+/// before its call ends, and an error of the writer is a fault (docs/ARCHITECTURE.md, "The outside").
 #[derive(Drop)]
 pub struct OutSink<W: Write + Drop> {
     writer: W,
@@ -106,30 +104,5 @@ impl<W: Write + Drop> Sink for OutSink<W> {
 
     fn faults(&self) -> u64 {
         self.faults
-    }
-}
-
-/// A screen that takes each frame and keeps nothing. It never fails (docs/ARCHITECTURE.md, The outside).
-#[derive(Drop)]
-pub struct NoScreen;
-
-impl NoScreen {
-    /// Another such screen.
-    pub fn new() -> NoScreen {
-        NoScreen
-    }
-}
-
-impl Screen for NoScreen {
-    ghost shown = { λ _. None };
-
-    ghost faults = { λ _. 0 };
-
-    fn present(&mut self, _n: u64, _updates: &[Rect], _picture: &Picture) -> Result<(), Failed> {
-        Ok(())
-    }
-
-    fn faults(&self) -> u64 {
-        0
     }
 }

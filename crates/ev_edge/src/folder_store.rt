@@ -3,12 +3,12 @@ ghost use Rattle.std.specs.Prelude.{◌≡◌, ◌≢◌, ◌≤◌, List, Optio
 ghost use Rattle.std.specs.IoError.{error_kind};
 ghost use Rattle.ev_port.specs.Causes.{HasStoreCause};
 ghost use Rattle.ev_port.specs.Files.{Fetches};
-ghost use Rattle.ev_port.specs.Folder.{path_of, is_fault, Reads};
+ghost use Rattle.ev_edge.specs.Folder.{path_of, is_fault, Reads};
 ghost use Rattle.ev_port.specs.Told.{counted};
 ghost use Rattle.ev_port.specs.declared.file.TheConstants.{LARGEST_FILE};
 ghost use Rattle.ev_port.specs.declared.file.StoredFile.{StoredFile};
 
-use crate::{LARGEST_FILE, Store, StoreErr};
+use ev_port::{LARGEST_FILE, Store, StoreErr};
 use std::alloc::Global;
 use std::fs::{self, OpenFile};
 use std::io::{self, ErrorKind, Read};
@@ -20,7 +20,7 @@ const PIECE: usize = 1 << 16;
 
 /// A store over a folder: a key names the file of that name. Only a file that isn't found is missing.
 /// A key that isn't text, a folder of that name and each other error of the system is a fault
-/// (docs/ARCHITECTURE.md, The outside).
+/// (docs/ARCHITECTURE.md, "The outside").
 #[derive(Drop)]
 pub struct FolderStore<R: Files + Drop> {
     files: R,
@@ -88,7 +88,8 @@ impl<R: Files + Drop> Store for FolderStore<R> {
 
 // The path of the key's file. A key that isn't text is a fault.
 fn spell_path(alloc: Global, folder: &str, key: &[u8]) -> Result<String, StoreErr>
-    ensures { IfOk result (λ path. string_bytes path ≡ path_of folder.now key.now) }
+    ensures path { IfOk result (λ path. string_bytes path ≡ path_of folder.now key.now) }
+    ensures found { IsErrOf result StoreErr.Missing → ⊥ }
 {
     let Ok(key) = str::from_utf8(key) else {
         return Err(StoreErr::Failed);
@@ -112,7 +113,8 @@ fn opening_fault(error: &io::Error) -> StoreErr
 
 // Makes room for as many bytes as the file has now, if it isn't too large.
 fn make_room<F: OpenFile>(file: &F, into: &mut Vec<u8>) -> Result<(), StoreErr>
-    ensures { into.new.items ≡ into.old.items }
+    ensures same { into.new.items ≡ into.old.items }
+    ensures found { IsErrOf result StoreErr.Missing → ⊥ }
 {
     let Ok(found) = file.metadata() else {
         return Err(StoreErr::Failed);

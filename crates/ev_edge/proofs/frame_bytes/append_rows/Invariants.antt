@@ -1,8 +1,8 @@
 use Rattle.std.proofs.Common.{◌≡◌, ◌≤◌, ◌+◌, ◌*◌, ◌++◌, vec_len, vec_capacity}
 use Rattle.std.specs.List.{flat_map, range_with_len}
 use Rattle.ev_argb.specs.Grid.{row_of}
-use Rattle.ev_port.specs.Folder.{channels}
-use Rattle.ev_port.proofs.frame_bytes.append_rows.Given as goal
+use Rattle.ev_image.specs.Format.{channels}
+use Rattle.ev_edge.proofs.frame_bytes.append_rows.Given as goal
 
 -- the bytes of the first y rows are there
 abbrev pub invariant-loop-y : goal.invariant-loop-y

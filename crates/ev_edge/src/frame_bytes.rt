@@ -2,12 +2,14 @@
 ghost use Rattle.std.specs.Prelude.{◌≡◌, ◌+◌, ◌*◌, ◌≤◌, ◌++◌, length, IfOk, vec_len, vec_capacity};
 ghost use Rattle.std.specs.List.{flat_map};
 ghost use Rattle.ev_argb.specs.Grid.{IsWhole};
-ghost use Rattle.ev_port.specs.Folder.{channels, frame_bytes};
+ghost use Rattle.ev_image.specs.Format.{channels};
+ghost use Rattle.ev_edge.specs.Folder.{frame_bytes};
 ghost use Rattle.ev_port.specs.Frame.{pixels_of};
 
 use crate::NoMemory;
-use crate::room::append;
 use ev_argb::{MAX_SIDE, Picture, Pixel};
+use ev_image::channels;
+use ev_port::append;
 use std::alloc::Global;
 use std::marker::Model;
 
@@ -89,11 +91,4 @@ fn spell(pixels: &[Pixel], into: &mut [u8])
     for i in 0..pixels.len() {
         into[4 * i..4 * i + 4].copy_from_slice(&channels(pixels[i]));
     }
-}
-
-#[inline(always)]
-fn channels(p: Pixel) -> [u8; 4]
-    ensures { result ≡ channels p }
-{
-    [p.a(), p.r(), p.g(), p.b()]
 }

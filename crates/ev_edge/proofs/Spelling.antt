@@ -5,7 +5,7 @@ use Rattle.std.proofs.lemmas.Grind.{flat_map-append}
 use Rattle.std.specs.List.{flat_map, range_with_len}
 use Rattle.ev_argb.specs.Argb.{Argb}
 use Rattle.ev_argb.specs.Grid.{Grid, pixel_at, row_of}
-use Rattle.ev_port.specs.Folder.{channels}
+use Rattle.ev_image.specs.Format.{channels}
 use Rattle.ev_port.proofs.Rows.{front, row_front, rows_more}
 
 -- four bytes for each pixel

@@ -1,12 +1,12 @@
 -- Files of a folder: their paths, why none is given, and the file that a frame is written to.
-use Rattle.std.specs.Prelude.{ℕ, List, [], ◌∷◌, ◌++◌, codes, Option, Some, None, Result, Ok, Err, Bool, true, false}
-use Rattle.std.specs.List.{flat_map}
+use Rattle.std.specs.Prelude.{ℕ, List, ◌++◌, codes, Option, Some, None, Result, Ok, Err, Bool, true, false}
 use Rattle.std.specs.Fmt.{decimal}
-use Rattle.std.specs.Int.{w32, to_le_bytes}
-use Rattle.ev_argb.specs.Argb.{Argb}
 use Rattle.ev_argb.specs.Grid.{Grid}
 use Rattle.ev_port.specs.Files.{due, Answers}
 use Rattle.ev_port.specs.Frame.{pixels_of}
+use Rattle.ev_model.specs.Raster.{Raster}
+use Rattle.ev_image.specs.Format.{spelling}
+use Rattle.ev_image.specs.declared.format.Format.TheVariants.{Evi1}
 use Rattle.ev_port.specs.declared.outside.StoreErr.{StoreErr}
 use Rattle.ev_port.specs.declared.outside.StoreErr.TheVariants.{Missing, TooLarge, Failed, NoMemory}
 
@@ -31,10 +31,10 @@ Reads (Some bytes) result into = Answers (due (Some bytes)) result into
 abbrev pub frame_path : List ℕ → ℕ → List ℕ
 frame_path folder n = folder ++ codes "/frame-" ++ decimal n ++ codes ".evi"
 
--- the bytes of a pixel's four channels, alpha first
-abbrev pub channels : Argb → List ℕ
-channels p = p.a ∷ p.r ∷ p.g ∷ p.b ∷ []
+-- a picture as an image
+abbrev pub image_of : Grid → Raster
+image_of grid = record { w = grid.w; h = grid.h; pixels = pixels_of grid }
 
--- a picture in the format EVI1: four characters, width and height of four bytes each with the lowest first, and the pixels row by row from the top
+-- the bytes of a frame's file: its picture in the format EVI1
 abbrev pub frame_bytes : Grid → List ℕ
-frame_bytes grid = codes "EVI1" ++ to_le_bytes w32 grid.w ++ to_le_bytes w32 grid.h ++ flat_map channels (pixels_of grid)
+frame_bytes grid = spelling Evi1 (image_of grid)

@@ -1,6 +1,6 @@
 use Rattle.std.proofs.Common.{◌≡◌, ◌+◌, ◌*◌, drop, arith}
-use Rattle.ev_port.proofs.Spelling.{bytes_front, bytes_front_length, bytes_appended}
-use Rattle.ev_port.proofs.frame_bytes.append_rows.Goals as goal
+use Rattle.ev_edge.proofs.Spelling.{bytes_front, bytes_front_length, bytes_appended}
+use Rattle.ev_edge.proofs.frame_bytes.append_rows.Goals as goal
 
 pub loop-y-preserved : goal.loop-y-preserved
 loop-y-preserved c =
