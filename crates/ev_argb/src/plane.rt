@@ -1,10 +1,10 @@
 // A plane holds its pixels in one vector. Clauses see its size, its pixels and its count.
-ghost use Rattle.std.specs.Prelude.{◌≡◌, ℕ, ◌≤◌, ◌<◌, ◌+◌, ◌*◌, ◌^◌, length, get_or, slice_range, IfOk};
+ghost use Rattle.std.specs.Prelude.{◌≡◌, ℕ, ◌≤◌, ◌<◌, ◌+◌, ◌*◌, ◌^◌, length, map, replicate, get_or, slice_range, IfOk};
 ghost use Rattle.std.specs.Simd.Lanes.{zip2};
 ghost use Rattle.ev_argb.specs.Argb as argb;
-ghost use Rattle.ev_argb.specs.Tile.{blank, place, tile_at, painted_on, with_pixel_in, PaintsSpan};
+ghost use Rattle.ev_argb.specs.Tile.{IsTile, blank, place, tile_at, painted_on, with_pixel_in, PaintsSpan};
 
-use crate::span::blend;
+use crate::span::{blend, blend_one};
 use crate::{NoMemory, Pixel};
 use std::alloc::Global;
 use std::marker::Model;
@@ -80,6 +80,53 @@ impl Plane {
         let len = from.len();
         blend(&mut self.pixels[at..at + len], from);
         self.painted += len as u64;
+    }
+
+    /// Replaces `len` pixels from column x of row y on by one. The span lies in the plane. Each pixel
+    /// of it counts as painted.
+    #[inline(always)]
+    pub fn fill_span(&mut self, x: u32, y: u32, len: u32, pixel: Pixel)
+        requires columns { x + len ≤ self.old.w }
+        requires row { y < self.old.h }
+        requires count { self.old.painted + len < 2 ^ 64 }
+        ensures value { self.new ≡ painted_on self.old (place self.old x y) (replicate len pixel) }
+        ensures pixels { PaintsSpan self.old self.new x y len (λ i. pixel) }
+    {
+        let at = y as usize * self.width as usize + x as usize;
+        self.pixels[at..at + len as usize].fill(pixel);
+        self.painted += u64::from(len);
+    }
+
+    /// Paints one pixel over each of `len` from column x of row y on, by `over`. The span lies in the
+    /// plane. Each pixel of it counts as painted.
+    #[inline(always)]
+    pub fn blend_all(&mut self, x: u32, y: u32, len: u32, pixel: Pixel)
+        requires columns { x + len ≤ self.old.w }
+        requires row { y < self.old.h }
+        requires count { self.old.painted + len < 2 ^ 64 }
+        ensures value { let at = place self.old x y in
+            self.new ≡ painted_on self.old at (map (argb.over pixel) (slice_range self.old.pixels at (at + len))) }
+        ensures pixels { PaintsSpan self.old self.new x y len (λ i. argb.over pixel (tile_at self.old (x + i) y)) }
+    {
+        let at = y as usize * self.width as usize + x as usize;
+        blend_one(&mut self.pixels[at..at + len as usize], pixel);
+        self.painted += u64::from(len);
+    }
+
+    /// How many columns the plane has.
+    pub fn width(&self) -> u32
+        ensures width { result ≡ self.now.w }
+        ensures plane { IsTile self.now }
+    {
+        self.width
+    }
+
+    /// How many rows the plane has.
+    pub fn height(&self) -> u32
+        ensures height { result ≡ self.now.h }
+        ensures plane { IsTile self.now }
+    {
+        self.height
     }
 
     /// The pixel in column x of row y of the plane, counted from its top left.

@@ -37,6 +37,20 @@ fn spans_are_counted(rt: HostRuntime) -> Result<(), Fail> {
 }
 
 #[test]
+fn one_pixel_on_a_span(rt: HostRuntime) -> Result<(), Fail> {
+    let mut plane = Plane::new(rt.alloc(), 4, 3)?;
+    plane.fill_span(0, 2, 3, pixel(0x80000080)?);
+    plane.blend_all(1, 2, 3, pixel(0x80800000)?);
+    assert_eq!(rt; plane.painted(), 18);
+    assert_eq!(rt; plane.get(0, 2).bits(), 0x80000080);
+    assert_eq!(rt; plane.get(1, 2).bits(), 0xc0800040);
+    assert_eq!(rt; plane.get(3, 2).bits(), 0x80800000);
+    assert_eq!(rt; plane.width(), 4);
+    assert_eq!(rt; plane.height(), 3);
+    Ok(())
+}
+
+#[test]
 fn planes_come_and_go(rt: HostRuntime) -> Result<(), Fail> {
     let red = pixel(0xffff0000)?;
     let mut picture = Picture::new(rt.alloc(), 70, 65)?;
