@@ -2,6 +2,7 @@
 use Rattle.std.specs.Prelude.{◌≡◌, ℕ, pos, neg_ℤ, true, false, refl, map, replicate, slice_set, List, [], ◌∷◌, ◌++◌, Some, None}
 use Rattle.ev_argb.specs.Argb.{unpacked, packed}
 use Rattle.ev_model.specs.Glyphs.{Glyphs}
+use Rattle.ev_model.specs.Capture.{capture_of}
 use Rattle.ev_model.specs.Paint.{redrawn}
 use Rattle.ev_model.specs.declared.content.Fill.{Fill}
 use Rattle.ev_model.specs.declared.content.Fill.TheVariants.{Filled, Area}
@@ -33,7 +34,7 @@ inside id o = record o { parent = Some id }
 
 -- the words of the pixels of a full redraw
 abbrev words : ℕ → ℕ → List Object → List ℕ
-words w h objects = map packed (redrawn (record { w = w; h = h; objects = objects }))
+words w h objects = map packed (redrawn (capture_of (record { w = w; h = h; objects = objects })))
 
 abbrev image : ℕ → ℕ → List ℕ → Fill → ℕ → Content
 image w h pixels fill border = content.Image (record {

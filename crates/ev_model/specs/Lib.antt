@@ -9,14 +9,13 @@ pub mod Chain
 pub mod Stage
 pub mod Up
 pub mod Look
+pub mod Limits
+pub mod Capture
 pub mod Paint
 pub mod Order
-pub mod Limits
-pub mod Captured
 pub mod Answer
 pub mod Text
 pub mod Examples
 pub mod Logs
-pub mod Walk
 pub mod Remade
 pub mod Small

@@ -1,5 +1,5 @@
 -- Replies, and the orders of small scenes.
-use Rattle.std.specs.Prelude.{◌≡◌, ℕ, pos, refl, codes, List, [], ◌∷◌, ◌++◌, ◌==◌, if◌then◌else◌, map, Option, Some, None}
+use Rattle.std.specs.Prelude.{◌≡◌, ℕ, pos, refl, codes, List, [], ◌∷◌, ◌++◌, ◌==◌, if◌then◌else◌, Option, Some, None}
 use Rattle.std.specs.Fmt.{digits}
 use Rattle.ev_argb.specs.Argb.{unpacked}
 use Rattle.ev_model.specs.Order.{in_order}

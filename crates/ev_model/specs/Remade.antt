@@ -1,10 +1,7 @@
 -- Pictures that are made anew place by place, each pixel of the old one.
-use Rattle.std.specs.Prelude.{◌≡◌, ◌≢◌, ℕ, ◌<◌, ◌≤◌, List}
+use Rattle.std.specs.Prelude.{◌≡◌, ◌≢◌, ℕ, ◌<◌, ◌≤◌}
 use Rattle.ev_argb.specs.Argb.{Argb, clear}
 use Rattle.ev_argb.specs.Grid.{Grid, IsWhole, pixel_at}
-use Rattle.ev_model.specs.Stage.{Stage}
-use Rattle.ev_model.specs.Paint.{painted_all}
-use Rattle.ev_model.specs.declared.object.Object.{Object}
 
 -- whatever was there, it is clear
 abbrev pub cleared : ℕ → ℕ → Argb → Argb
@@ -39,10 +36,3 @@ pub record RemakesColumnsBelow (make : ℕ → ℕ → Argb → Argb) (old new :
   pub done : (x : ℕ) → x < old.w → x < n → pixel_at new x r ≡ make x r (pixel_at old x r)
   pub rest : (x : ℕ) → x < old.w → n ≤ x → pixel_at new x r ≡ pixel_at old x r
   pub others : (x y : ℕ) → x < old.w → y < old.h → y ≢ r → pixel_at new x y ≡ pixel_at old x y
-
--- a whole picture of the stage's size in which these objects are painted
-pub record IsPaintedBy (s : Stage) (objects : List Object) (grid : Grid) : Type 0 where
-  pub width : grid.w ≡ s.w
-  pub height : grid.h ≡ s.h
-  pub whole : IsWhole grid
-  pub pixels : (x y : ℕ) → x < s.w → y < s.h → pixel_at grid x y ≡ painted_all s objects x y clear

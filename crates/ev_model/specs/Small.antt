@@ -1,10 +1,9 @@
--- Scenes of tests.
-use Rattle.std.specs.Prelude.{◌≡◌}
-use Rattle.ev_model.specs.Limits.{AreObjects}
-use Rattle.ev_model.specs.declared.scene.Scene.{Scene}
+-- Records of tests.
+use Rattle.std.specs.Prelude.{All, List}
+use Rattle.ev_model.specs.Capture.{IsLookOn}
+use Rattle.ev_model.specs.Look.{look_of}
+use Rattle.ev_model.specs.declared.scene.Record.{Record}
 
--- 4 by 4, of objects that keep their limits
-pub record IsSmall (scene : Scene) : Type 0 where
-  pub w : scene.w ≡ 4
-  pub h : scene.h ≡ 4
-  pub objects : AreObjects scene.objects
+-- each is a record on a canvas of 4 by 4
+abbrev pub AreSmall : List Record → Type 0
+AreSmall records = All (λ r. IsLookOn 4 4 (look_of r)) records

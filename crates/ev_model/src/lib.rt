@@ -8,7 +8,6 @@ mod content;
 mod font;
 mod image;
 mod loaded;
-mod look;
 mod name;
 mod object;
 mod redraw;
@@ -18,7 +17,6 @@ mod sample;
 mod scene;
 #[cfg(test)]
 mod tests;
-mod way;
 mod words;
 
 pub use axis::Axis;

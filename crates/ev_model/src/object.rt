@@ -33,6 +33,27 @@ pub struct Object {
     pub content: Content,
 }
 
+impl Object {
+    ghost use Rattle.ev_model.specs.Up.{is_smart, is_clipped_by};
+
+    /// Whether it is a smart object (docs/CANVAS.md, "Objects").
+    pub fn is_smart(&self) -> bool
+        ensures { result ≡ is_smart self.now }
+    {
+        matches!(self.content, Content::Smart)
+    }
+
+    /// Whether the object of this id is its clipper (docs/CANVAS.md, "Clippers and groups").
+    pub fn is_clipped_by(&self, id: u64) -> bool
+        ensures { result ≡ is_clipped_by id self.now }
+    {
+        match self.clipper {
+            Some(clipper) => clipper == id,
+            None => false,
+        }
+    }
+}
+
 impl Copied for Object {
     fn copied(&self) -> Result<Object, NoMemory> {
         let content = self.content.copied()?;

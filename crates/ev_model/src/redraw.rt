@@ -1,33 +1,32 @@
-// The plain full redraw: object by object, from the lowest to the highest.
-ghost use Rattle.std.specs.Prelude.{◌≡◌, flat_map, pos, ◌<◌, ◌≤◌, ◌≤ℤ◌, ◌<ℤ◌, ◌+ℤ◌};
+// The plain full redraw: record by record, from the lowest to the highest.
+ghost use Rattle.std.specs.Prelude.{◌≡◌, All, flat_map, pos, ◌<◌, ◌≤◌, ◌≤ℤ◌, ◌<ℤ◌, ◌+ℤ◌};
 ghost use Rattle.std.specs.List.{range_with_len};
 ghost use Rattle.ev_argb.specs.Grid.{IsWhole, row_of};
-ghost use Rattle.ev_model.specs.Stage.{stage};
-ghost use Rattle.ev_model.specs.Look.{look};
-ghost use Rattle.ev_model.specs.Walk.{look_as, IsOnCanvas};
+ghost use Rattle.ev_model.specs.Capture.{capture_on, IsLookOn};
+ghost use Rattle.ev_model.specs.Limits.{IsObject};
+ghost use Rattle.ev_model.specs.Look.{look_of};
+ghost use Rattle.ev_model.specs.Paint.{IsRedrawn, redrawn, painted, put_sample, sample_at, put};
 ghost use Rattle.ev_model.specs.Remade.{cleared, Remakes, RemakesRow};
-ghost use Rattle.ev_model.specs.Paint.{IsRedrawn, redrawn, painted, painted_by, put_sample, sample_at, put};
-ghost use Rattle.ev_model.specs.Limits.{IsObject, AreObjects};
 
-use crate::look::look;
 use crate::sample::sample_at;
-use crate::way::Seen;
-use crate::{Object, Op, Scene};
+use crate::{Op, Record};
 use ev_argb::{Picture, Pixel, over, tint};
 
-/// Paints the scene on a whole picture of its size, in place of what stood there: afterwards each
-/// pixel has the value that docs/CANVAS.md, "Painting" gives to it. It takes no memory.
-pub fn full_redraw(scene: &Scene, picture: &mut Picture)
+/// Paints records on a whole picture, the lowest first, in place of what stood there: afterwards each
+/// pixel has the value that docs/CANVAS.md, "Painting" gives to it. The picture has at most 4096
+/// columns and rows. Each record's area isn't empty, and lies in the picture and in the rectangle of
+/// its object. It takes no memory.
+pub fn full_redraw(records: &[Record], picture: &mut Picture)
     requires whole { IsWhole picture.old }
-    requires width { picture.old.w ≡ scene.now.w }
-    requires height { picture.old.h ≡ scene.now.h }
-    requires limits { AreObjects scene.now.objects }
-    ensures redrawn { IsRedrawn (stage scene.now) picture.new }
-    ensures rows { flat_map (row_of picture.new) (range_with_len 0 picture.new.h) ≡ redrawn (stage scene.now) }
+    requires width { picture.old.w ≤ 4096 }
+    requires height { picture.old.h ≤ 4096 }
+    requires looks { All (λ r. IsLookOn picture.old.w picture.old.h (look_of r)) records.now }
+    ensures redrawn { IsRedrawn (capture_on picture.old.w picture.old.h records.now) picture.new }
+    ensures rows { flat_map (row_of picture.new) (range_with_len 0 picture.new.h) ≡ redrawn (capture_on picture.old.w picture.old.h records.now) }
 {
     clear(picture);
-    for state in scene.objects.as_slice() {
-        paint_object(scene, state.get(), picture);
+    for one in records {
+        paint_record(one, picture);
     }
 }
 
@@ -51,63 +50,48 @@ fn clear_row(picture: &mut Picture, y: u32)
     }
 }
 
-// Paints an object that may have no look.
-fn paint_object(scene: &Scene, object: &Object, picture: &mut Picture)
-    requires whole { IsWhole picture.old }
-    requires width { picture.old.w ≡ scene.now.w }
-    requires height { picture.old.h ≡ scene.now.h }
-    requires limits { IsObject object.now }
-    ensures { Remakes (painted_by (look (stage scene.now) object.now)) picture.old picture.new }
-{
-    let _width = picture.width();
-    if let Some(seen) = look(scene, object) {
-        paint_look(&seen, object, picture);
-    }
-}
-
-// Paints a look on a picture in which its area lies.
-fn paint_look(seen: &Seen, object: &Object, picture: &mut Picture)
+// Paints a record on a picture in which its area lies.
+fn paint_record(one: &Record, picture: &mut Picture)
     requires whole { IsWhole picture.old }
     requires width { picture.old.w ≤ 4096 }
     requires height { picture.old.h ≤ 4096 }
-    requires area { IsOnCanvas picture.old.w picture.old.h seen.now.area }
-    requires limits { IsObject object.now }
-    ensures { Remakes (painted (look_as object.now seen.now)) picture.old picture.new }
+    requires look { IsLookOn picture.old.w picture.old.h (look_of one.now) }
+    ensures { Remakes (painted (look_of one.now)) picture.old picture.new }
 {
-    let top = seen.area.y() as u32;
-    for y in top..top + seen.area.h() as u32 {
-        paint_row(seen, object, picture, y);
+    let top = one.area.y() as u32;
+    for y in top..top + one.area.h() as u32 {
+        paint_row(one, picture, y);
     }
 }
 
-// Paints row y of a look.
-fn paint_row(seen: &Seen, object: &Object, picture: &mut Picture, y: u32)
+// Paints row y of a record.
+fn paint_row(one: &Record, picture: &mut Picture, y: u32)
     requires whole { IsWhole picture.old }
     requires width { picture.old.w ≤ 4096 }
     requires height { picture.old.h ≤ 4096 }
-    requires area { IsOnCanvas picture.old.w picture.old.h seen.now.area }
+    requires look { IsLookOn picture.old.w picture.old.h (look_of one.now) }
     requires row { y < picture.old.h }
-    requires top { seen.now.area.y ≤ℤ pos y }
-    requires bottom { pos y <ℤ (seen.now.area.y +ℤ seen.now.area.h) }
-    requires limits { IsObject object.now }
-    ensures { RemakesRow (painted (look_as object.now seen.now)) picture.old picture.new y }
+    requires top { one.now.area.y ≤ℤ pos y }
+    requires bottom { pos y <ℤ (one.now.area.y +ℤ one.now.area.h) }
+    ensures { RemakesRow (painted (look_of one.now)) picture.old picture.new y }
 {
-    let left = seen.area.x() as u32;
-    for x in left..left + seen.area.w() as u32 {
+    let left = one.area.x() as u32;
+    for x in left..left + one.area.w() as u32 {
         let below = picture.get(x, y);
-        picture.set(x, y, painted(seen, object, x, y, below));
+        picture.set(x, y, painted(one, x, y, below));
     }
 }
 
-// A value, once an object was painted there.
-fn painted(seen: &Seen, object: &Object, x: u32, y: u32, below: Pixel) -> Pixel
+// A value in a record's area, once the record was painted there.
+fn painted(one: &Record, x: u32, y: u32, below: Pixel) -> Pixel
     requires column { x < 4096 }
     requires row { y < 4096 }
-    requires limits { IsObject object.now }
-    ensures { result ≡ put_sample object.now.op seen.now.color (sample_at object.now x y) below }
+    requires limits { IsObject one.now.object.value }
+    ensures { result ≡ put_sample one.now.object.value.op one.now.color (sample_at one.now.object.value x y) below }
 {
+    let object = one.object.get();
     match sample_at(object, x, y) {
-        Some(q) => put(object.op, tint(q, seen.color), below),
+        Some(q) => put(object.op, tint(q, one.color), below),
         None => below,
     }
 }

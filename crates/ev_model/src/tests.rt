@@ -1,10 +1,13 @@
-// Names, copies, and a small scene that is drawn.
-ghost use Rattle.std.specs.Prelude.{IfOk};
+// Names, copies, and two records that are painted.
+ghost use Rattle.std.specs.Prelude.{◌≡◌, ◌≤◌, IfOk};
+ghost use Rattle.ev_model.specs.Capture.{IsLookOn};
 ghost use Rattle.ev_model.specs.Limits.{IsContent, IsObject};
-ghost use Rattle.ev_model.specs.Small.{IsSmall};
+ghost use Rattle.ev_model.specs.Look.{look_of};
+ghost use Rattle.ev_model.specs.Small.{AreSmall};
+ghost use Rattle.ev_model.specs.Stage.{canvas_on};
 
 use crate::{
-    Border, Content, Fill, Image, ImagePart, Kind, LoadedImage, Name, Object, Objects, Op, Scene,
+    Border, Content, Fill, Image, ImagePart, Kind, LoadedImage, Name, Object, Op, Record,
     full_redraw,
 };
 use ev_argb::{Picture, Pixel};
@@ -28,7 +31,8 @@ fn names_begin_with_no_mark_but_an_underscore(rt: HostRuntime) -> Result<(), Fai
 
 // An object of 4 by 4 at 0, 0.
 fn object(id: u64, name: Name, color: Pixel, clipper: Option<u64>, content: Content) -> Object
-    ensures { IsContent content → IsObject result }
+    ensures limits { IsContent content → IsObject result }
+    ensures rect { result.rect ≡ canvas_on 4 4 }
 {
     Object {
         id,
@@ -76,40 +80,44 @@ fn copies_share_a_loaded_image(rt: HostRuntime) -> Result<(), Fail> {
     Ok(())
 }
 
-// Two visible rectangles of 4 by 4, the first clipped by the second.
-fn clipped(alloc: Global, first: Pixel, second: Pixel, name: Name) -> Result<Scene, AllocError>
-    ensures { IfOk result IsSmall }
+// The record of a white rectangle of 4 by 4, of which these columns are left, tinted by a colour.
+fn record(alloc: Global, name: Name, columns: u32, color: Pixel) -> Result<Record, AllocError>
+    requires some { 1 ≤ columns }
+    requires inside { columns ≤ 4 }
+    ensures { IfOk result (λ r. IsLookOn 4 4 (look_of r)) }
 {
+    let white = Pixel::new(255, 255, 255, 255);
     let mut tally = Tally::new();
-    let mut objects = Objects::new(alloc);
-    let lower = Shared::make(alloc, rectangle(1, name, first, Some(2)), &mut tally)?;
-    objects.push(lower)?;
-    let upper = Shared::make(alloc, rectangle(2, name, second, None), &mut tally)?;
-    objects.push(upper)?;
-    Ok(Scene {
-        w: 4,
-        h: 4,
-        objects,
+    let object = object(1, name, white, None, Content::Rect);
+    let object = Shared::make(alloc, object, &mut tally)?;
+    Ok(Record {
+        id: 1,
+        area: Rect::at_origin(columns, 4),
+        color,
+        object,
     })
 }
 
-fn rectangle(id: u64, name: Name, color: Pixel, clipper: Option<u64>) -> Object
-    ensures { IsObject result }
+// Two such records, of which the upper one has two columns left.
+fn records(alloc: Global, lower: Pixel, upper: Pixel) -> Result<[Record; 2], Fail>
+    ensures { IfOk result AreSmall }
 {
-    object(id, name, color, clipper, Content::Rect)
+    let name = Name::read(b"o").ok_or("name")?;
+    let lower = record(alloc, name, 4, lower)?;
+    let upper = record(alloc, name, 2, upper)?;
+    Ok([lower, upper])
 }
 
 #[test]
-fn clippers_tint_and_nothing_shines_through(rt: HostRuntime) -> Result<(), Fail> {
-    let name = Name::read(b"o").expect(&rt, "a name");
-    let white = Pixel::new(255, 255, 255, 255);
+fn records_tint_and_nothing_shines_through(rt: HostRuntime) -> Result<(), Fail> {
     let half = Pixel::new(128, 128, 128, 128);
-    let scene = clipped(rt.alloc(), white, half, name)?;
+    let red = Pixel::new(128, 128, 0, 0);
+    let records = records(rt.alloc(), half, red)?;
     let mut picture = Picture::new(rt.alloc(), 4, 4)?;
-    picture.set(3, 3, white);
-    full_redraw(&scene, &mut picture);
+    picture.set(3, 3, Pixel::new(255, 255, 255, 255));
+    full_redraw(&records, &mut picture);
     assert!(rt; 3 < picture.width() && 3 < picture.height());
     assert_eq!(rt; picture.get(3, 3).bits(), 0x8080_8080);
-    assert_eq!(rt; picture.get(0, 0).bits(), 0x8080_8080);
+    assert_eq!(rt; picture.get(0, 0).bits(), 0xc0c0_4040);
     Ok(())
 }

@@ -1,29 +1,30 @@
-use Rattle.std.proofs.Common.{◌≡◌, ap, sym, ◌∙◌, subst, arith, length, take, List}
+use Rattle.std.proofs.Common.{◌≡◌, ℕ, List, length, take, ap, sym, ◌∙◌, subst, arith}
 use Rattle.std.proofs.lemmas.List.Elements.{All-get_or}
 use Rattle.std.proofs.Math.Seq.{take-length}
-use Rattle.ev_state.specs.Held.{Held}
-use Rattle.ev_model.specs.Stage.{stage, values}
-use Rattle.ev_model.specs.Limits.{IsObject, AreObjects}
-use Rattle.ev_model.specs.Remade.{IsPaintedBy}
-use Rattle.ev_model.specs.declared.object.Object.{Object}
+use Rattle.ev_model.specs.Capture.{capture_on, IsLookOn}
+use Rattle.ev_model.specs.Look.{look_of}
+use Rattle.ev_model.specs.Paint.{IsRedrawn}
+use Rattle.ev_model.specs.declared.scene.Record.{Record}
 use Rattle.ev_model.proofs.Rows.{redrawn_rows}
 use Rattle.ev_model.proofs.redraw.full_redraw.Goals as goal
 
-pub paint_object-requires-clause-limits : goal.paint_object-requires-clause-limits
-paint_object-requires-clause-limits c =
-    let P : Held Object → Type 0 = λ s. IsObject s.value in
-    let limits : AreObjects c.as_slice-state-items.result.now = subst AreObjects (sym c.as_slice-state-items.ensures) c.requires.limits in
-    let here : IsObject c.state-item.result.value = subst P (sym c.state-item.is) (All-get_or P c.as_slice-state-items.result.now c.loop-state.state-index c.state-item.result c.loop-state-test.true limits) in
-    subst IsObject (sym c.get.ensures) here
-
--- after the loop all objects are painted
-pub returns-clause-redrawn : goal.returns-clause-redrawn
-returns-clause-redrawn c =
-    let objects = c.args.scene.now.objects in
-    let all : c.loop-state.state-index ≡ length objects = omega (arith, ap length c.as_slice-state-items.ensures, c.loop-state-test.false, c.loop-state.auto.state-index-end) in
-    let P : List (Held Object) → Type 0 = λ states. IsPaintedBy (stage c.args.scene.now) (values states) c.loop-state.picture in
-    let by = subst P (ap (λ n. take n objects) all ∙ take-length objects) c.loop-state.invariant in
-    record { width = by.width; height = by.height; whole = by.whole; pixels = by.pixels }
+pub paint_record-requires-clause-look : goal.paint_record-requires-clause-look
+paint_record-requires-clause-look c =
+    let records = c.args.records.now in
+    let size = c.clear.ensures.size in
+    let P : Record → Type 0 = λ r. IsLookOn c.args.picture.now.w c.args.picture.now.h (look_of r) in
+    let W : ℕ → Type 0 = λ w. IsLookOn w c.loop-one.picture.h (look_of c.one-item.result) in
+    let H : ℕ → Type 0 = λ h. IsLookOn c.args.picture.now.w h (look_of c.one-item.result) in
+    let here : P c.one-item.result = subst P (sym c.one-item.is) (All-get_or P records c.loop-one.one-index c.one-item.result c.loop-one-test.true c.requires.looks) in
+    subst W (sym (c.loop-one.invariant.width ∙ size.width)) (subst H (sym (c.loop-one.invariant.height ∙ size.height)) here)
 
 pub returns-clause-rows : goal.returns-clause-rows
-returns-clause-rows c = redrawn_rows (stage c.args.scene.now) c.loop-state.picture (returns-clause-redrawn c)
+returns-clause-rows c =
+    let records = c.args.records.now in
+    let all : c.loop-one.one-index ≡ length records = omega (arith, c.loop-one-test.false, c.loop-one.auto.one-index-end) in
+    let size = c.clear.ensures.size in
+    let P : List Record → Type 0 = λ records. IsRedrawn (capture_on c.clear.new.picture.w c.clear.new.picture.h records) c.loop-one.picture in
+    let W : ℕ → Type 0 = λ w. IsRedrawn (capture_on w c.clear.new.picture.h records) c.loop-one.picture in
+    let H : ℕ → Type 0 = λ h. IsRedrawn (capture_on c.args.picture.now.w h records) c.loop-one.picture in
+    redrawn_rows (capture_on c.args.picture.now.w c.args.picture.now.h records) c.loop-one.picture
+    (subst H size.height (subst W size.width (subst P (ap (λ n. take n records) all ∙ take-length records) c.loop-one.invariant)))
