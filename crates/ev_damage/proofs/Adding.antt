@@ -1,9 +1,10 @@
 -- Adding pixels to a list of rectangles.
-use Rattle.std.proofs.Common.{◌≡◌, ◌⊎◌, inl, inr, ℤ, pos, ◌+ℤ◌, ◌-ℤ◌, ◌≤ℤ◌, ◌<ℤ◌, int_lt, int_le, Bool, true, false, ◌&&◌, ◌||◌, List, refl, sym, ap, ap₂, ◌∙◌, arith}
+use Rattle.std.proofs.Common.{◌≡◌, ◌≢◌, ◌⊎◌, inl, inr, ℤ, pos, ◌+ℤ◌, ◌-ℤ◌, ◌≤ℤ◌, ◌<ℤ◌, int_lt, int_le, Bool, true, false, ◌&&◌, ◌||◌, List, refl, sym, ap, ap₂, ◌∙◌, subst, arith}
 use Rattle.std.proofs.lemmas.Int.{ints}
 use Rattle.ev_geom.specs.Area.{Area, holds, is_within, meet}
 use Rattle.ev_geom.proofs.Meeting.{holds_meet}
 use Rattle.ev_geom.specs.Bands.{has_pixel, IsBandsOf, IsInSquare, FitsRegion}
+use Rattle.ev_model.proofs.Meets.{meet_sides}
 use Rattle.ev_damage.specs.Places.{Adds}
 use Rattle.ev_damage.proofs.Members.{both}
 
@@ -71,6 +72,18 @@ common_fits m a b pixels wide high fits =
 pub meet_pixels : (a b m : Area) → m ≡ meet a b → (x y : ℤ) → holds m x y ≡ (holds a x y && holds b x y)
 meet_pixels a b m e x y = ap (λ m. holds m x y) e ∙ holds_meet a b x y
 
+not_below : (n : ℤ) → pos 0 ≤ℤ n → n ≢ pos 0 → pos 0 <ℤ n
+not_below n low none = go (int_lt (pos 0) n) refl where
+  go : (t : Bool) → int_lt (pos 0) n ≡ t → pos 0 <ℤ n
+  go true e = lt_is (pos 0) n e
+  go false e = absurd (none (omega (arith, ints, low, e)))
+
+-- the common part of two rectangles, of which one lies in the square, lies there too
+pub meet_fits : (a b m : Area) → m ≡ meet a b → FitsRegion b → FitsRegion m
+meet_fits a b m e fits wide high =
+    let sides = subst (λ m. (pos 0 ≤ℤ m.w) × (pos 0 ≤ℤ m.h)) (sym e) (meet_sides a b) in
+    common_fits m a b (meet_pixels a b m e) (not_below m.w sides.0 wide) (not_below m.h sides.1 high) fits
+
 -- nothing is added
 pub adds_none : (more : ℤ → ℤ → Bool) (old : List Area) → ((x y : ℤ) → more x y ≡ false) → Adds more old old
 adds_none more old h = record { pixels = λ x y. sym (ap (λ t. has_pixel old x y || t) (h x y) ∙ or_false (has_pixel old x y)); banded = λ b. b }
@@ -87,5 +100,8 @@ adds_both one two all old mid new a b h = record {
 }
 
 -- an area that has no pixel in common with another
-pub adds_nothing : (m a b : Area) (old : List Area) → ((x y : ℤ) → holds m x y ≡ (holds a x y && holds b x y)) → (m.w ≤ℤ pos 0) ⊎ (m.h ≤ℤ pos 0) → Adds (λ x y. holds a x y && holds b x y) old old
-adds_nothing m a b old pixels h = adds_none (λ x y. holds a x y && holds b x y) old (λ x y. sym (pixels x y) ∙ none_held m x y h)
+pub adds_nothing : (a b m : Area) (old : List Area) → m ≡ meet a b → (m.w ≡ pos 0) ⊎ (m.h ≡ pos 0) → Adds (λ x y. holds a x y && holds b x y) old old
+adds_nothing a b m old e none = adds_none (λ x y. holds a x y && holds b x y) old (λ x y. sym (meet_pixels a b m e x y) ∙ none_held m x y (below none)) where
+  below : (m.w ≡ pos 0) ⊎ (m.h ≡ pos 0) → (m.w ≤ℤ pos 0) ⊎ (m.h ≤ℤ pos 0)
+  below (inl h) = inl (omega (arith, ints, h))
+  below (inr h) = inr (omega (arith, ints, h))

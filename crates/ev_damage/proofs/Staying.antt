@@ -3,7 +3,7 @@ use Rattle.std.proofs.Common.{◌≡◌, ℕ, ℤ, pos, Bool, true, false, ◌&&
 use Rattle.std.proofs.lemmas.Bool.{eqb-true, eq-eqb}
 use Rattle.std.specs.List.{list_any, AllZip}
 use Rattle.ev_geom.specs.Area.{holds}
-use Rattle.ev_model.specs.Look.{Look, IsSameLook, looks}
+use Rattle.ev_model.specs.Look.{Look, IsSameLook}
 use Rattle.ev_damage.specs.Same.{same_look}
 use Rattle.ev_damage.specs.Damage.{is_kept, in_unkept, in_order, is_crossed, in_crossed, is_damaged}
 use Rattle.ev_damage.specs.Stay.{covering}

@@ -5,8 +5,8 @@ use Rattle.ev_model.specs.Raster.{Raster}
 use Rattle.ev_geom.specs.Area.{holds}
 use Rattle.ev_model.specs.Glyphs.{Glyphs}
 use Rattle.ev_model.specs.Loaded.{Loaded}
-use Rattle.ev_model.specs.Stage.{Stage}
-use Rattle.ev_model.specs.Look.{Look, IsSameLook, looks}
+use Rattle.ev_model.specs.Capture.{Capture}
+use Rattle.ev_model.specs.Look.{Look, IsSameLook}
 use Rattle.ev_model.specs.Paint.{paint}
 use Rattle.ev_model.specs.declared.content.Content.{Content}
 use Rattle.ev_model.specs.declared.content.Content.TheVariants as content
@@ -31,9 +31,9 @@ pub record AreOneLoad (o p : Object) : Type 0 where
   pub image : IsOneLoad (image_of o.content) (image_of p.content)
   pub font : IsOneLoad (font_of o.content) (font_of p.content)
 
--- one load number stands for one image and for one font in all these objects together
-abbrev pub HaveOneLoad : List Object → List Object → Type 0
-HaveOneLoad objects others = All (λ o. All (λ p. AreOneLoad o p) others) objects
+-- one load number stands for one image and for one font in the objects of all these looks together
+abbrev pub HaveOneLoad : List Look → List Look → Type 0
+HaveOneLoad looks others = All (λ l. All (λ m. AreOneLoad l.object m.object) others) looks
 
 -- the looks that cover a pixel, from the lowest to the highest
 abbrev pub covering : List Look → ℕ → ℕ → List Look
@@ -44,7 +44,7 @@ pub record IsStillLook (l m : Look) : Type 0 where
   pub id : l.id ≡ m.id
   pub same : IsSameLook l m
 
--- the same looks cover the pixel in both scenes, in the same order, and it is painted the same
-pub record IsStill (a b : Stage) (x y : ℕ) : Type 0 where
-  pub looks : AllZip IsStillLook (covering (looks a) x y) (covering (looks b) x y)
+-- the same looks cover the pixel in both captured scenes, in the same order, and it is painted the same
+pub record IsStill (a b : Capture) (x y : ℕ) : Type 0 where
+  pub looks : AllZip IsStillLook (covering a.looks x y) (covering b.looks x y)
   pub pixel : paint a x y ≡ paint b x y

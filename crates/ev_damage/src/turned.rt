@@ -57,7 +57,7 @@ fn add_meet(region: &mut Region, one: &Rect, other: &Rect) -> Result<(), NoMemor
     ensures { OnOk result (Adds (λ x y. holds one.now x y && holds other.now x y) region.old region.new) }
 {
     let both = one.meet(other);
-    if 0 < both.w() && 0 < both.h() {
+    if !both.is_empty() {
         region.add_rect(&both)?;
     }
     Ok(())
