@@ -1,8 +1,9 @@
 -- What a move answers.
-use Rattle.std.proofs.Common.{◌≡◌, ℕ, ℤ, ◌+◌, ◌≤◌, ◌+ℤ◌, ◌-ℤ◌, Bool, true, false, ◌&&◌, List, length, Option, Some, None, Result, Ok, Err, OnOk, IfErr, if◌then◌else◌, FitsSigned, w64, to_z, of_z, refl, sym, ap, ap₂, ◌∙◌, subst, arith}
+use Rattle.std.proofs.Common.{◌≡◌, ℕ, ℤ, ◌+◌, ◌≤◌, ◌+ℤ◌, ◌-ℤ◌, Bool, true, false, ◌&&◌, List, length, pos, int_eq, Option, Some, None, Result, Ok, Err, OnOk, IfErr, if◌then◌else◌, FitsSigned, w64, to_z, of_z, refl, sym, ap, ap₂, ◌∙◌, subst, arith}
 use Rattle.std.specs.List.{cons_option, list_all}
 use Rattle.std.specs.Option.{option_map, option_map_or}
 use Rattle.std.specs.Result.{IsErrAnd}
+use Rattle.std.proofs.lemmas.Bool.Decides.{Decides-int_eq}
 use Rattle.std.proofs.lemmas.Int.{ints, to_z-of_z}
 use Rattle.std.proofs.lemmas.Option.{none-some, same_Some}
 use Rattle.ev_geom.specs.Area.{is_place}
@@ -13,9 +14,11 @@ use Rattle.ev_model.specs.declared.refusal.Refusal.TheVariants as refusal
 use Rattle.ev_scene.specs.Slots.{of_id, put}
 use Rattle.ev_scene.specs.Board.{Board, inside, named}
 use Rattle.ev_scene.specs.Change.{apply}
-use Rattle.ev_scene.specs.Edits.{Answers, Refuses, unless, known, with_named, move_verdict, moved, may_shift, shifted_all, objects_in, changed}
+use Rattle.ev_scene.specs.Edits.{Answers, Refuses, unless, known, with_named, move_verdict, move_writes, is_at, moved, may_shift, shifted_all, objects_in, changed}
 use Rattle.ev_scene.specs.declared.change.Change.{Change}
 use Rattle.ev_scene.specs.declared.change.Change.TheVariants as change
+use Rattle.ev_links.specs.Ties.{has}
+use Rattle.ev_scene.proofs.Shifting.{both}
 use Rattle.ev_scene.proofs.Verdicts.{wanting, changed_is}
 
 -- a test that was made, and what it gave
@@ -36,6 +39,9 @@ told_place x y fx fy = ap₂ change.Place (to_z-of_z w64 x fx) (to_z-of_z w64 y 
 
 there_and_back : (at to : ℤ) → at +ℤ (to -ℤ at) ≡ to
 there_and_back at to = omega (arith, ints)
+
+no_distance : (to at : ℤ) → int_eq to at ≡ true → to -ℤ at ≡ pos 0
+no_distance to at e = let same : to ≡ at = (Decides-int_eq to at).0 e in omega (arith, ints, same)
 
 module _ (board : Board) (name : List ℕ) (o : Object) (is : Some o ≡ named board.objects name) (x y : ℤ) where
   abbrev verdict : Option Refusal
@@ -85,8 +91,23 @@ module _ (board : Board) (name : List ℕ) (o : Object) (is : Some o ≡ named b
     go (Ok done) ok err = let said = ok o there in (its_verdict ∙ ap (λ b. unless b refusal.Range) said.0, said.1 ∙ sym its_after)
     go (Err cause) ok err = let said = err o there in (subst (λ verdict. Refuses verdict cause) (sym its_verdict) said.0, said.1)
 
-  pub group_made : (made made' : ℕ) → made' ≤ made + length (inside board o) → made' ≤ made + option_map_or (λ o. length (inside board o)) (named board.objects name) 1
-  group_made made made' few = subst (λ found. made' ≤ made + option_map_or (λ o. length (inside board o)) found 1) is few
+  -- the states that a smart object makes, none where it stays, are few enough
+  pub group_made : (dx dy : ℤ) → dx ≡ x -ℤ o.rect.x → dy ≡ y -ℤ o.rect.y → (made made' : ℕ) → made' ≤ made + length (inside board o) → (dx ≡ pos 0 → dy ≡ pos 0 → made' ≡ made)
+      → made' ≤ made + option_map_or (move_writes x y board) (named board.objects name) 1
+  group_made dx dy ex ey made made' few still = subst (λ found. made' ≤ made + option_map_or (move_writes x y board) found 1) is (go (is_at x y o) refl) where
+    go : (at : Bool) → is_at x y o ≡ at → made' ≤ made + (if at then 1 else length (inside board o))
+    go true e =
+        let same = both (int_eq x o.rect.x) (int_eq y o.rect.y) e in
+        let none : made' ≡ made = still (ex ∙ no_distance x o.rect.x same.0) (ey ∙ no_distance y o.rect.y same.1) in
+        omega (arith, none)
+    go false e = few
+
+  -- the state that another object makes is one
+  pub one_made : (made made' : ℕ) → made' ≤ made + 1 → made' ≤ made + option_map_or (move_writes x y board) (named board.objects name) 1
+  one_made made made' few = subst (λ found. made' ≤ made + option_map_or (move_writes x y board) found 1) is (go (is_at x y o)) where
+    go : (at : Bool) → made' ≤ made + (if at then 1 else length (inside board o))
+    go true = few
+    go false = omega (arith, few)
 
   -- another object
   module _ (plain : is_smart o ≡ false) (places : (is_place x && is_place y) ≡ true) where

@@ -1,5 +1,5 @@
 -- Whether all that stands inside an object may move.
-use Rattle.std.proofs.Common.{◌≡◌, ℕ, zero, suc, ℤ, ◌+◌, ◌-◌, ◌<◌, ◌≤◌, Bool, true, false, ◌&&◌, List, [], ◌∷◌, length, map, filter_map, Option, Some, None, is_some, FitsSigned, w64, to_z, of_z, if◌then◌else◌, refl, sym, ap, ap₂, ◌∙◌, subst, inl, inr, arith}
+use Rattle.std.proofs.Common.{◌≡◌, ℕ, zero, suc, ℤ, pos, ◌+◌, ◌-◌, ◌<◌, ◌≤◌, Bool, true, false, ◌&&◌, List, [], ◌∷◌, length, map, filter_map, Option, Some, None, is_some, FitsSigned, w64, to_z, of_z, if◌then◌else◌, refl, sym, ap, ap₂, ◌∙◌, subst, inl, inr, arith}
 use Rattle.std.specs.FinMap.{get}
 use Rattle.std.specs.List.{list_all}
 use Rattle.std.specs.Option.{option_map, option_to_list}
@@ -19,7 +19,7 @@ use Rattle.ev_scene.specs.Board.{Board, inside, values_of}
 use Rattle.ev_scene.specs.Edits.{Refuses, unless, may_shift, shifted_by, shifted_all, objects_in}
 use Rattle.ev_scene.specs.Whole.{IsWhole}
 use Rattle.ev_scene.proofs.Places.{id_high}
-use Rattle.ev_scene.proofs.Shifting.{cons_passes, shifted_values}
+use Rattle.ev_scene.proofs.Shifting.{cons_passes, shifted_values, not_shifted}
 use Rattle.ev_scene.proofs.Trees.{inside_is}
 
 -- numbers that went through a call
@@ -123,6 +123,10 @@ module _ (w h : ℕ) (objects : List (Option Object)) (groups : List (List (ℕ 
       ap (λ objects. record board { objects = objects }) (f ∙ shifted_values w h objects groups ties whole dx dy ids
           ∙ ap (λ ids. map (λ slot. option_map (λ p. if has ids p.id then shifted_by dx dy p else p) slot) objects) (ids_are o there)),
     )
+
+    pub group_rests : dx ≡ pos 0 → dy ≡ pos 0 → list_all (may_shift dx dy) (filter_map (of_id objects) ids) ≡ true → (o : Object) → of_id objects id ≡ Some o
+        → (list_all (may_shift dx dy) (objects_in board o) ≡ true) × (board ≡ shifted_all dx dy board o)
+    group_rests ex ey e o there = (same_test o there ∙ e, sym (ap₂ (λ dx dy. shifted_all dx dy board o) ex ey ∙ not_shifted board o))
 
     pub as_many : (o : Object) → of_id objects id ≡ Some o → length ids ≡ length (inside board o)
     as_many o there = ap length (ids_are o there)

@@ -1,21 +1,22 @@
 -- Objects that move together.
-use Rattle.std.proofs.Common.{◌≡◌, ℕ, zero, suc, ℤ, ◌+◌, ◌<◌, ◌≤◌, Bool, true, false, ◌&&◌, ◌==◌, List, [], ◌∷◌, ◌++◌, All, length, get_or, map, filter_map, drop, Option, Some, None, if◌then◌else◌, refl, sym, ap, ap₂, ◌∙◌, subst, arith, append_assoc}
+use Rattle.std.proofs.Common.{◌≡◌, ℕ, zero, suc, ℤ, pos, ◌+ℤ◌, ◌+◌, ◌<◌, ◌≤◌, Bool, true, false, ◌&&◌, ◌==◌, List, [], ◌∷◌, ◌++◌, All, length, get_or, map, filter_map, drop, Option, Some, None, if◌then◌else◌, refl, sym, ap, ap₂, ◌∙◌, subst, arith, append_assoc}
 use Rattle.std.specs.List.{cons_option, list_all}
 use Rattle.std.specs.Option.{option_map, option_and_then, option_to_list}
 use Rattle.std.proofs.Math.Bool.{true≢false}
 use Rattle.std.proofs.Math.Seq.{drop-cons}
 use Rattle.std.proofs.lemmas.Option.{none-some, same_Some}
 use Rattle.std.proofs.lemmas.List.{map-append, length-map, drop_all}
+use Rattle.std.proofs.lemmas.Int.{ints}
 use Rattle.ev_state.specs.Held.{Held}
 use Rattle.ev_model.specs.Limits.{IsObject}
 use Rattle.ev_model.specs.declared.object.Object.{Object}
 use Rattle.ev_groups.specs.Groups.{place}
 use Rattle.ev_links.specs.Ties.{Ties, has}
 use Rattle.ev_scene.specs.Slots.{of_id, spread, value_of}
-use Rattle.ev_scene.specs.Board.{values_of}
+use Rattle.ev_scene.specs.Board.{Board, values_of, inside}
 use Rattle.ev_scene.specs.Roll.{name_at, IsStateOf}
 use Rattle.ev_scene.specs.Change.{apply}
-use Rattle.ev_scene.specs.Edits.{may_shift, shifted_by}
+use Rattle.ev_scene.specs.Edits.{may_shift, shifted_by, shifted_all}
 use Rattle.ev_scene.specs.Ties.{tie_of, layer_at}
 use Rattle.ev_scene.specs.Whole.{IsWhole}
 use Rattle.ev_scene.specs.declared.change.Change.TheVariants as change
@@ -117,6 +118,27 @@ all_states states f id name (s ∷ items) (o ∷ objects) e there k d low =
       go : (k : ℕ) (d : Held Object) → k < length (s ∷ items) → All (IsStateOf states) items → IsStateOf states (get_or (s ∷ items) k d)
       go zero d low rest = here
       go (suc k) d low rest = rest k d (omega (arith, low))
+
+-- where all stays in its place, the scene stays
+pub not_shifted : (board : Board) (o : Object) → shifted_all (pos 0) (pos 0) board o ≡ board
+not_shifted board o = ap (λ objects. record board { objects = objects }) (all board.objects) where
+  by_nothing : (at : ℤ) → at +ℤ pos 0 ≡ at
+  by_nothing at = omega (arith, ints)
+
+  one : (p : Object) → shifted_by (pos 0) (pos 0) p ≡ p
+  one p = ap₂ (λ x y. apply (change.Place x y) p) (by_nothing p.rect.x) (by_nothing p.rect.y)
+
+  choice : (b : Bool) (p : Object) → (if b then shifted_by (pos 0) (pos 0) p else p) ≡ p
+  choice true p = one p
+  choice false p = refl
+
+  slot : (s : Option Object) → option_map (λ p. if has (inside board o) p.id then shifted_by (pos 0) (pos 0) p else p) s ≡ s
+  slot None = refl
+  slot (Some p) = ap Some (choice (has (inside board o) p.id) p)
+
+  all : (slots : List (Option Object)) → map (λ s. option_map (λ p. if has (inside board o) p.id then shifted_by (pos 0) (pos 0) p else p) s) slots ≡ slots
+  all [] = refl
+  all (s ∷ slots) = ap₂ ◌∷◌ (slot s) (all slots)
 
 -- what moves ties and places no object
 pub place_stands : (x y : ℤ) (o : Object) → IsSameStand o (apply (change.Place x y) o)

@@ -246,9 +246,17 @@ Edits old edit result new = Answers (verdict old edit) old (effect old edit) res
 abbrev pub clipped_by : Board → Object → List Object
 clipped_by board o = filter (is_clipped_by o.id) (filter_map (of_id board.objects) (siblings board.groups o.parent))
 
+-- an object stands at x, y
+abbrev pub is_at : ℤ → ℤ → Object → Bool
+is_at x y o = int_eq x o.rect.x && int_eq y o.rect.y
+
+-- how many objects a move changes, the named one counted: a move to where that one stands changes no other one
+abbrev pub move_writes : ℤ → ℤ → Board → Object → ℕ
+move_writes x y board o = if is_at x y o then 1 else length (inside board o)
+
 -- how many states an edit makes at most: one for the object that it names, and one for each other object that it changes and that stays
 abbrev pub writes : Board → Edit → ℕ
 writes board (edit.Size w h) = 0
-writes board (edit.Move name x y) = option_map_or (λ o. length (inside board o)) (named board.objects name) 1
+writes board (edit.Move name x y) = option_map_or (move_writes x y board) (named board.objects name) 1
 writes board (edit.Delete name) = option_map_or (λ o. length (clipped_by board o) + 1) (named board.objects name) 1
 writes board other = 1

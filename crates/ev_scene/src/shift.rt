@@ -1,5 +1,5 @@
 // Moves.
-ghost use Rattle.std.specs.Prelude.{◌≡◌, ℕ, ◌+◌, ◌≤◌, List, ◌++◌, length, map, filter_map, option_to_list, OnOk, OnErr, IfOk, IfErr, Option, Some, None, true, if◌then◌else◌, ◌&&◌, ◌+ℤ◌, ◌-ℤ◌};
+ghost use Rattle.std.specs.Prelude.{◌≡◌, ℕ, ◌+◌, ◌≤◌, List, ◌++◌, length, map, filter_map, option_to_list, OnOk, OnErr, IfOk, IfErr, Option, Some, None, true, if◌then◌else◌, ◌&&◌, ◌+ℤ◌, ◌-ℤ◌, pos};
 ghost use Rattle.std.specs.List.{list_all};
 ghost use Rattle.ev_geom.specs.Area.{is_place, IsPlace};
 ghost use Rattle.ev_model.specs.Up.{is_smart};
@@ -56,6 +56,7 @@ impl Cast {
         ensures err { IfErr result (λ cause. (o : Object) → of_id (values_of self.old.roll.states) id ≡ Some o
             → Refuses (unless (list_all (may_shift dx dy) (objects_in (board_of self.old) o)) refusal.Range) cause × (board_of self.new ≡ board_of self.old)) }
         ensures made { (o : Object) → of_id (values_of self.old.roll.states) id ≡ Some o → self.new.roll.made ≤ self.old.roll.made + length (inside (board_of self.old) o) }
+        ensures still { dx ≡ pos 0 → dy ≡ pos 0 → self.new.roll.made ≡ self.old.roll.made }
         ensures grows { self.old.roll.made ≤ self.new.roll.made }
     {
         let Ok(ids) = self.inside(id) else {
@@ -63,6 +64,9 @@ impl Cast {
         };
         if !may_shift_all(&self.roll, &ids, dx, dy) {
             return Err(Refusal::Range);
+        }
+        if dx == 0 && dy == 0 {
+            return Ok(());
         }
         let states = shifted(&mut self.roll, &ids, dx, dy)?;
         self.roll.replace_all(states);

@@ -1,10 +1,10 @@
-use Rattle.std.proofs.Common.{◌&&◌, FitsSigned, w64, sym, subst, rules}
+use Rattle.std.proofs.Common.{◌+◌, ◌≤◌, ◌&&◌, FitsSigned, w64, sym, subst, rules}
 use Rattle.std.proofs.lemmas.Int.{to_z-of_z}
 use Rattle.ev_geom.specs.Area.{is_side}
 use Rattle.ev_model.specs.declared.command.Edit.{Edit}
 use Rattle.ev_scene.specs.Cast.{board_of}
 use Rattle.ev_scene.specs.Change.{are_channels, color_of, is_fill, fill_of, is_border, border_of}
-use Rattle.ev_scene.specs.Edits.{Edits}
+use Rattle.ev_scene.specs.Edits.{Edits, writes}
 use Rattle.ev_scene.specs.declared.change.Change.TheVariants as change
 use Rattle.ev_scene.specs.declared.drawing.Drawing.TheVariants as drawing
 use Rattle.ev_scene.proofs.Answering.{change_answers, draw_answers}
@@ -16,6 +16,13 @@ returns-in-Move-clause-edits c =
     let y : FitsSigned w64 c.in-Move.y = search rules in
     let P : Edit → Type 0 = λ edit. Edits (board_of c.args.self.now) edit c.shift.result (board_of c.shift.new.self) in
     subst P (sym c.in-Move.is) (simp to_z-of_z at c.shift.ensures.edits)
+
+pub returns-in-Move-clause-made : goal.returns-in-Move-clause-made
+returns-in-Move-clause-made c =
+    let x : FitsSigned w64 c.in-Move.x = search rules in
+    let y : FitsSigned w64 c.in-Move.y = search rules in
+    let P : Edit → Type 0 = λ edit. c.shift.new.self.roll.made ≤ c.args.self.now.roll.made + writes (board_of c.args.self.now) edit in
+    subst P (sym c.in-Move.is) (simp to_z-of_z at c.shift.ensures.made)
 
 pub returns-in-Resize-clause-edits : goal.returns-in-Resize-clause-edits
 returns-in-Resize-clause-edits c =

@@ -4,7 +4,7 @@ use Rattle.ev_scene.specs.Board.{values_of}
 use Rattle.ev_scene.specs.Cast.{board_of}
 use Rattle.ev_scene.proofs.Shifting.{both}
 use Rattle.ev_scene.proofs.Standing.{looked}
-use Rattle.ev_scene.proofs.Moving.{passed, not_passed, told_places, told_place, no_place, group_answers, group_made, one_answers, one_refused}
+use Rattle.ev_scene.proofs.Moving.{passed, not_passed, told_places, told_place, no_place, group_answers, group_made, one_made, one_answers, one_refused}
 use Rattle.ev_scene.proofs.Verdicts.{has_state}
 use Rattle.ev_scene.proofs.cast.Cast.shift.Goals as goal
 
@@ -31,7 +31,13 @@ returns-then-is_smart-clause-edits c =
 
 pub returns-then-is_smart-clause-made : goal.returns-then-is_smart-clause-made
 returns-then-is_smart-clause-made c =
-    group_made (board_of c.args.self.now) c.args.name.now c.in-Some.object.now (c.in-Some.ensures).value c.args.x c.args.y c.args.self.now.roll.made c.shift_group.new.self.roll.made (c.shift_group.ensures.made c.in-Some.object.now (c.in-Some.ensures).there)
+    let dx : FitsSigned w64 c.distance-dx.result = search rules in
+    let dy : FitsSigned w64 c.distance-dy.result = search rules in
+    let along : c.distance-dx.result ≡ c.args.x -ℤ c.in-Some.object.now.rect.x = search rules in
+    let down : c.distance-dy.result ≡ c.args.y -ℤ c.in-Some.object.now.rect.y = search rules in
+    group_made (board_of c.args.self.now) c.args.name.now c.in-Some.object.now (c.in-Some.ensures).value c.args.x c.args.y
+    _ _ (to_z-of_z w64 c.distance-dx.result dx ∙ along) (to_z-of_z w64 c.distance-dy.result dy ∙ down) c.args.self.now.roll.made c.shift_group.new.self.roll.made
+    (c.shift_group.ensures.made c.in-Some.object.now (c.in-Some.ensures).there) c.shift_group.ensures.still
 
 pub change-requires-clause-there : goal.change-requires-clause-there
 change-requires-clause-there c = has_state c.args.self.now.roll.states c.in-Some.object.now.id c.in-Some.object.now (c.in-Some.ensures).there
@@ -55,3 +61,7 @@ returns-clause-edits c =
     one_answers (board_of c.args.self.now) c.args.name.now c.in-Some.object.now (c.in-Some.ensures).value c.args.x c.args.y (sym c.is_smart.ensures ∙ c.if-is_smart.false)
     (told_places c.args.x c.args.y x y ∙ (passed _ _ _ (c.in-Some-place.ensures).value).0) c.in-Some-place.change (values_of c.change.new.self.states)
     ((passed _ _ _ (c.in-Some-place.ensures).value).1 ∙ told_place c.args.x c.args.y x y) (c.in-Some.ensures).there (c.in_ok-change.ensures).ok
+
+pub returns-clause-made : goal.returns-clause-made
+returns-clause-made c =
+    one_made (board_of c.args.self.now) c.args.name.now c.in-Some.object.now (c.in-Some.ensures).value c.args.x c.args.y c.args.self.now.roll.made c.change.new.self.made (c.change.ensures.made)

@@ -1,4 +1,5 @@
-use Rattle.std.proofs.Common.{◌≡◌, map, filter_map, FitsSigned, w64, refl, ap, ◌∙◌, sym, rules, subst, All}
+use Rattle.std.proofs.Common.{◌≡◌, to_z, map, filter_map, FitsSigned, w64, refl, ap, ◌∙◌, sym, rules, subst, All}
+use Rattle.std.proofs.lemmas.Int.{to_z-of_z}
 use Rattle.std.specs.List.{list_all}
 use Rattle.ev_scene.specs.Slots.{of_id, value_of}
 use Rattle.ev_scene.specs.Board.{values_of}
@@ -6,7 +7,7 @@ use Rattle.ev_scene.specs.Roll.{IsStateOf}
 use Rattle.ev_scene.specs.Edits.{may_shift, shifted_by}
 use Rattle.ev_scene.proofs.Shifting.{all_states, shifted_whole}
 use Rattle.ev_scene.proofs.Spreading.{listed_stand}
-use Rattle.ev_scene.proofs.Refusing.{told_may, told_states, group_stays, group_moves, spread_is}
+use Rattle.ev_scene.proofs.Refusing.{told_may, told_states, group_stays, group_moves, group_rests, spread_is}
 use Rattle.ev_scene.proofs.cast.Cast.shift_group.Goals as goal
 
 pub returns-then-not-may_shift_all-clause-err : goal.returns-then-not-may_shift_all-clause-err
@@ -18,6 +19,15 @@ returns-then-not-may_shift_all-clause-err c o there =
           (told_may c.args.dx c.args.dy dx dy (filter_map (of_id (values_of c.args.self.now.roll.states)) c.deref.result.now) c.may_shift_all.result c.may_shift_all.ensures ∙ c.if-not-may_shift_all.true) o there,
       refl,
     )
+
+pub returns-then-dy-eq0-clause-ok : goal.returns-then-dy-eq0-clause-ok
+returns-then-dy-eq0-clause-ok c =
+    let dx : FitsSigned w64 c.args.dx = search rules in
+    let dy : FitsSigned w64 c.args.dy = search rules in
+    group_rests c.args.self.now.w c.args.self.now.h (values_of c.args.self.now.roll.states) c.args.self.now.groups c.args.self.now.links c.requires.whole c.args.dx c.args.dy c.args.id c.deref.result.now
+    (λ o id smart. c.deref.ensures.value ∙ c.in-Ok.ensures o id smart) c.requires.object
+    (sym (to_z-of_z w64 c.args.dx dx) ∙ ap (to_z w64) c.if-dx-eq0.true) (sym (to_z-of_z w64 c.args.dy dy) ∙ ap (to_z w64) c.if-dy-eq0.true)
+    (told_may c.args.dx c.args.dy dx dy (filter_map (of_id (values_of c.args.self.now.roll.states)) c.deref.result.now) c.may_shift_all.result c.may_shift_all.ensures ∙ c.if-not-may_shift_all.false)
 
 pub replace_all-requires : goal.replace_all-requires
 replace_all-requires c =
