@@ -1,5 +1,5 @@
 -- Edits of a scene: when each is refused, and what it does.
-use Rattle.std.specs.Prelude.{◌≡◌, ℕ, ◌+◌, ℤ, ◌+ℤ◌, ◌-ℤ◌, ◌≤ℤ◌, pos, neg_ℤ, Bool, true, false, not, ◌&&◌, ◌||◌, ◌==◌, nat_lt, unsigned_abs, if◌then◌else◌, List, [], ◌∷◌, ◌++◌, length, map, filter, filter_map, Option, Some, None, is_some, Result, MatchResult}
+use Rattle.std.specs.Prelude.{◌≡◌, ◌≢◌, ℕ, ◌+◌, ℤ, ◌+ℤ◌, ◌-ℤ◌, ◌≤ℤ◌, pos, neg_ℤ, Bool, true, false, not, ◌&&◌, ◌||◌, ◌==◌, nat_lt, unsigned_abs, if◌then◌else◌, List, [], ◌∷◌, ◌++◌, length, map, filter, filter_map, Option, Some, None, is_some, Result, MatchResult}
 use Rattle.std.specs.List.{list_any, list_all}
 use Rattle.std.specs.Option.{option_eq, option_map, option_map_or, option_and_then}
 use Rattle.std.specs.Ordering.{int_eq}
@@ -18,7 +18,7 @@ use Rattle.ev_stack.specs.Calls.{raised, lowered, relayered, placed_above, place
 use Rattle.ev_links.specs.Ties.{has}
 use Rattle.ev_groups.specs.Groups.{group, with_group, siblings}
 use Rattle.ev_scene.specs.Slots.{of_id, put, live}
-use Rattle.ev_scene.specs.Board.{Board, named, inside}
+use Rattle.ev_scene.specs.Board.{Board, Kept, named, inside}
 use Rattle.ev_scene.specs.Change.{apply, fresh, is_layer, is_canvas, are_channels, color_of, is_fill, fill_of, is_border, border_of}
 use Rattle.ev_scene.specs.declared.drawing.Drawing.TheVariants as drawing
 use Rattle.ev_scene.specs.declared.writing.Writing.TheVariants as writing
@@ -241,6 +241,11 @@ Answers verdict old after result new = MatchResult result
 
 abbrev pub Edits : {T : Type 0} → Board → Edit → Result T Refusal → Board → Type 0
 Edits old edit result new = Answers (verdict old edit) old (effect old edit) result new
+
+-- a refused edit leaves all as it was, the states and their serials too. Only where memory was wanting, states may have been made
+pub record IsLeft (old : Kept) (cause : Refusal) (new : Kept) : Type 0 where
+  pub stays : new ≡ record old { made = new.made }
+  pub free : cause ≢ refusal.NoMemory → new.made ≡ old.made
 
 -- what an object clips stands beside it
 abbrev pub clipped_by : Board → Object → List Object

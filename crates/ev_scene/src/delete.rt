@@ -1,5 +1,5 @@
 // Deletes.
-ghost use Rattle.std.specs.Prelude.{◌≡◌, ℕ, ◌+◌, ◌≤◌, List, ◌++◌, length, map, filter, filter_map, option_to_list, None, OnOk, OnErr, IfOk, Option, Some, true, false, if◌then◌else◌};
+ghost use Rattle.std.specs.Prelude.{◌≡◌, ℕ, ◌+◌, ◌≤◌, List, ◌++◌, length, map, filter, filter_map, option_to_list, None, OnOk, OnErr, IfErr, IfOk, Option, Some, true, false, if◌then◌else◌};
 ghost use Rattle.std.specs.FinMap.{get};
 ghost use Rattle.ev_model.specs.Up.{is_smart, is_clipped_by};
 ghost use Rattle.ev_model.specs.declared.object.Object.{Object};
@@ -8,9 +8,9 @@ ghost use Rattle.ev_links.specs.Ties.{parent_at, has};
 ghost use Rattle.ev_groups.specs.Groups.{siblings};
 ghost use Rattle.ev_scene.specs.Slots.{of_id, value_of};
 ghost use Rattle.ev_scene.specs.Board.{values_of, inside};
-ghost use Rattle.ev_scene.specs.Cast.{IsCast, IsSameButRoll, board_of};
+ghost use Rattle.ev_scene.specs.Cast.{IsCast, IsSameButRoll, kept_of, board_of};
 ghost use Rattle.ev_scene.specs.Change.{apply};
-ghost use Rattle.ev_scene.specs.Edits.{Edits, deleted, emptied, clipped_by, writes};
+ghost use Rattle.ev_scene.specs.Edits.{Edits, IsLeft, deleted, emptied, clipped_by, writes};
 ghost use Rattle.ev_scene.specs.declared.change.Change.TheVariants as change;
 
 use crate::NoMemory;
@@ -27,6 +27,7 @@ impl Cast {
         requires whole { IsCast self.old }
         ensures whole { IsCast self.new }
         ensures edits { Edits (board_of self.old) (edit.Delete name.now) result (board_of self.new) }
+        ensures refused { IfErr result (λ cause. IsLeft (kept_of self.old) cause (kept_of self.new)) }
         ensures made { self.new.roll.made ≤ self.old.roll.made + writes (board_of self.old) (edit.Delete name.now) }
         ensures grows { self.old.roll.made ≤ self.new.roll.made }
     {
@@ -48,7 +49,7 @@ impl Cast {
         requires object { (o : Object) × (of_id (values_of self.old.roll.states) id ≡ Some o) × (o.parent ≡ parent) × (is_smart o ≡ true) }
         ensures whole { IsCast self.new }
         ensures ok { OnOk result ((o : Object) → of_id (values_of self.old.roll.states) id ≡ Some o → board_of self.new ≡ deleted (board_of self.old) o) }
-        ensures err { OnErr result (board_of self.new ≡ board_of self.old) }
+        ensures err { OnErr result (kept_of self.new ≡ record (kept_of self.old) { made = self.new.roll.made }) }
         ensures made { self.new.roll.made ≡ self.old.roll.made }
     {
         let ids = self.inside(id)?;
@@ -66,7 +67,7 @@ impl Cast {
         requires object { (o : Object) × (of_id (values_of self.old.roll.states) id ≡ Some o) × (o.parent ≡ parent) × (is_smart o ≡ false) }
         ensures whole { IsCast self.new }
         ensures ok { OnOk result ((o : Object) → of_id (values_of self.old.roll.states) id ≡ Some o → board_of self.new ≡ deleted (board_of self.old) o) }
-        ensures err { OnErr result (board_of self.new ≡ board_of self.old) }
+        ensures err { OnErr result (kept_of self.new ≡ record (kept_of self.old) { made = self.new.roll.made }) }
         ensures made { (o : Object) → of_id (values_of self.old.roll.states) id ≡ Some o → self.new.roll.made ≤ self.old.roll.made + length (clipped_by (board_of self.old) o) }
         ensures grows { self.old.roll.made ≤ self.new.roll.made }
     {

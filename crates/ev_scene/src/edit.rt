@@ -4,9 +4,9 @@ ghost use Rattle.std.specs.Option.{ForSome};
 ghost use Rattle.ev_model.specs.Limits.{IsEdit};
 ghost use Rattle.ev_model.specs.declared.command.Edit.TheVariants as edit;
 ghost use Rattle.ev_model.specs.declared.refusal.Refusal.TheVariants as refusal;
-ghost use Rattle.ev_scene.specs.Cast.{IsCast, board_of};
+ghost use Rattle.ev_scene.specs.Cast.{IsCast, kept_of, board_of};
 ghost use Rattle.ev_scene.specs.Change.{IsLook};
-ghost use Rattle.ev_scene.specs.Edits.{known, unless, image_verdict, with_named, changed, Refuses, Edits, writes};
+ghost use Rattle.ev_scene.specs.Edits.{known, unless, image_verdict, with_named, changed, Refuses, Edits, IsLeft, writes};
 
 use crate::cast::Cast;
 use crate::change::{Change, fresh, is_between, paint, side};
@@ -23,6 +23,7 @@ impl Cast {
         requires text { IsEdit edit.now }
         ensures whole { IsCast self.new }
         ensures edits { Edits (board_of self.old) edit.now result (board_of self.new) }
+        ensures refused { IfErr result (λ cause. IsLeft (kept_of self.old) cause (kept_of self.new)) }
         ensures made { self.new.roll.made ≤ self.old.roll.made + writes (board_of self.old) edit.now }
         ensures grows { self.old.roll.made ≤ self.new.roll.made }
     {
@@ -60,6 +61,7 @@ impl Cast {
         requires whole { IsCast self.old }
         ensures whole { IsCast self.new }
         ensures edits { Edits (board_of self.old) (edit.Size w h) result (board_of self.new) }
+        ensures refused { IfErr result (λ cause. IsLeft (kept_of self.old) cause (kept_of self.new)) }
         ensures made { self.new.roll.made ≡ self.old.roll.made }
     {
         if !is_between(1, 4096, w) || !is_between(1, 4096, h) {
@@ -75,6 +77,7 @@ impl Cast {
         requires whole { IsCast self.old }
         ensures whole { IsCast self.new }
         ensures edits { Edits (board_of self.old) (edit.Make name.now kind) result (board_of self.new) }
+        ensures refused { IfErr result (λ cause. IsLeft (kept_of self.old) cause (kept_of self.new)) }
         ensures made { self.new.roll.made ≤ self.old.roll.made + 1 }
         ensures grows { self.old.roll.made ≤ self.new.roll.made }
     {
@@ -109,6 +112,7 @@ impl Cast {
             × IfSome change (λ c. board_of self.new ≡ with_named (board_of self.old) name.now (changed c (board_of self.old)))) }
         ensures err { IfErr result (λ cause. Refuses (known (board_of self.old) name.now (λ o. unless (is_some change) refusal.Range)) cause
             × (board_of self.new ≡ board_of self.old)) }
+        ensures refused { IfErr result (λ cause. IsLeft (kept_of self.old) cause (kept_of self.new)) }
         ensures made { self.new.roll.made ≤ self.old.roll.made + 1 }
         ensures grows { self.old.roll.made ≤ self.new.roll.made }
     {
@@ -128,6 +132,7 @@ impl Cast {
         requires whole { IsCast self.old }
         ensures whole { IsCast self.new }
         ensures edits { Edits (board_of self.old) (edit.SetOp name.now op) result (board_of self.new) }
+        ensures refused { IfErr result (λ cause. IsLeft (kept_of self.old) cause (kept_of self.new)) }
         ensures made { self.new.roll.made ≤ self.old.roll.made + 1 }
         ensures grows { self.old.roll.made ≤ self.new.roll.made }
     {
@@ -151,6 +156,7 @@ impl Cast {
             × IfSome change (λ c. board_of self.new ≡ with_named (board_of self.old) name.now (changed c (board_of self.old)))) }
         ensures err { IfErr result (λ cause. Refuses (known (board_of self.old) name.now (image_verdict (is_some change))) cause
             × (board_of self.new ≡ board_of self.old)) }
+        ensures refused { IfErr result (λ cause. IsLeft (kept_of self.old) cause (kept_of self.new)) }
         ensures made { self.new.roll.made ≤ self.old.roll.made + 1 }
         ensures grows { self.old.roll.made ≤ self.new.roll.made }
     {

@@ -1,5 +1,5 @@
 // Edits of clippers and parents.
-ghost use Rattle.std.specs.Prelude.{◌≡◌, ◌≢◌, ◌+◌, ◌<◌, ◌≤◌, true, length, is_some, OnOk, OnErr, Some, None};
+ghost use Rattle.std.specs.Prelude.{◌≡◌, ◌≢◌, ◌+◌, ◌<◌, ◌≤◌, true, length, is_some, OnOk, OnErr, IfErr, Some, None};
 ghost use Rattle.ev_stack.specs.Order.{layer_in, put_top};
 ghost use Rattle.ev_groups.specs.Groups.{place, group, with_group};
 ghost use Rattle.ev_links.specs.Calls.{with_parent};
@@ -7,8 +7,8 @@ ghost use Rattle.ev_model.specs.declared.object.Object.{Object};
 ghost use Rattle.ev_model.specs.declared.command.Edit.TheVariants as edit;
 ghost use Rattle.ev_scene.specs.Slots.{of_id};
 ghost use Rattle.ev_scene.specs.Board.{values_of};
-ghost use Rattle.ev_scene.specs.Cast.{IsCast, board_of};
-ghost use Rattle.ev_scene.specs.Edits.{Edits, rehomed};
+ghost use Rattle.ev_scene.specs.Cast.{IsCast, kept_of, board_of};
+ghost use Rattle.ev_scene.specs.Edits.{Edits, IsLeft, rehomed};
 ghost use Rattle.ev_scene.specs.Links.{refusal_of};
 ghost use Rattle.ev_scene.specs.Whole.{IsWhole};
 
@@ -26,6 +26,7 @@ impl Cast {
         requires whole { IsCast self.old }
         ensures whole { IsCast self.new }
         ensures edits { Edits (board_of self.old) (edit.Clip name.now clipper.now) result (board_of self.new) }
+        ensures refused { IfErr result (λ cause. IsLeft (kept_of self.old) cause (kept_of self.new)) }
         ensures made { self.new.roll.made ≤ self.old.roll.made + 1 }
         ensures grows { self.old.roll.made ≤ self.new.roll.made }
     {
@@ -52,6 +53,7 @@ impl Cast {
         requires whole { IsCast self.old }
         ensures whole { IsCast self.new }
         ensures edits { Edits (board_of self.old) (edit.Unclip name.now) result (board_of self.new) }
+        ensures refused { IfErr result (λ cause. IsLeft (kept_of self.old) cause (kept_of self.new)) }
         ensures made { self.new.roll.made ≤ self.old.roll.made + 1 }
         ensures grows { self.old.roll.made ≤ self.new.roll.made }
     {
@@ -71,6 +73,7 @@ impl Cast {
         requires whole { IsCast self.old }
         ensures whole { IsCast self.new }
         ensures edits { Edits (board_of self.old) (edit.Member name.now smart.now) result (board_of self.new) }
+        ensures refused { IfErr result (λ cause. IsLeft (kept_of self.old) cause (kept_of self.new)) }
         ensures made { self.new.roll.made ≤ self.old.roll.made + 1 }
         ensures grows { self.old.roll.made ≤ self.new.roll.made }
     {
@@ -100,6 +103,7 @@ impl Cast {
         requires whole { IsCast self.old }
         ensures whole { IsCast self.new }
         ensures edits { Edits (board_of self.old) (edit.Free name.now) result (board_of self.new) }
+        ensures refused { IfErr result (λ cause. IsLeft (kept_of self.old) cause (kept_of self.new)) }
         ensures made { self.new.roll.made ≤ self.old.roll.made + 1 }
         ensures grows { self.old.roll.made ≤ self.new.roll.made }
     {
@@ -129,7 +133,7 @@ impl Cast {
         requires known { place to < length self.old.groups }
         ensures ok { OnOk result ((o : Object) → of_id (values_of self.old.roll.states) id ≡ Some o → board_of self.new ≡ rehomed to (board_of self.old) o) }
         ensures whole { OnOk result (IsWhole self.new.w self.new.h (values_of self.new.roll.states) self.new.groups (with_parent self.old.links id to)) }
-        ensures err { OnErr result (board_of self.new ≡ board_of self.old) }
+        ensures err { OnErr result (kept_of self.new ≡ record (kept_of self.old) { made = self.new.roll.made }) }
         ensures links { self.new.links ≡ self.old.links }
         ensures made { self.new.roll.made ≤ self.old.roll.made + 1 }
         ensures grows { self.old.roll.made ≤ self.new.roll.made }

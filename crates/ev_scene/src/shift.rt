@@ -7,8 +7,8 @@ ghost use Rattle.ev_model.specs.declared.object.Object.{Object};
 ghost use Rattle.ev_model.specs.declared.command.Edit.TheVariants as edit;
 ghost use Rattle.ev_scene.specs.Slots.{of_id, value_of};
 ghost use Rattle.ev_scene.specs.Board.{values_of, inside};
-ghost use Rattle.ev_scene.specs.Cast.{IsCast, board_of};
-ghost use Rattle.ev_scene.specs.Edits.{Edits, Refuses, unless, may_shift, shifted_by, shifted_all, objects_in, IsShift, writes};
+ghost use Rattle.ev_scene.specs.Cast.{IsCast, kept_of, board_of};
+ghost use Rattle.ev_scene.specs.Edits.{Edits, IsLeft, Refuses, unless, may_shift, shifted_by, shifted_all, objects_in, IsShift, writes};
 ghost use Rattle.ev_model.specs.declared.refusal.Refusal.TheVariants as refusal;
 
 use crate::NoMemory;
@@ -26,6 +26,7 @@ impl Cast {
         requires whole { IsCast self.old }
         ensures whole { IsCast self.new }
         ensures edits { Edits (board_of self.old) (edit.Move name.now x y) result (board_of self.new) }
+        ensures refused { IfErr result (λ cause. IsLeft (kept_of self.old) cause (kept_of self.new)) }
         ensures made { self.new.roll.made ≤ self.old.roll.made + writes (board_of self.old) (edit.Move name.now x y) }
         ensures grows { self.old.roll.made ≤ self.new.roll.made }
     {
@@ -55,6 +56,7 @@ impl Cast {
             → (list_all (may_shift dx dy) (objects_in (board_of self.old) o) ≡ true) × (board_of self.new ≡ shifted_all dx dy (board_of self.old) o)) }
         ensures err { IfErr result (λ cause. (o : Object) → of_id (values_of self.old.roll.states) id ≡ Some o
             → Refuses (unless (list_all (may_shift dx dy) (objects_in (board_of self.old) o)) refusal.Range) cause × (board_of self.new ≡ board_of self.old)) }
+        ensures refused { IfErr result (λ cause. IsLeft (kept_of self.old) cause (kept_of self.new)) }
         ensures made { (o : Object) → of_id (values_of self.old.roll.states) id ≡ Some o → self.new.roll.made ≤ self.old.roll.made + length (inside (board_of self.old) o) }
         ensures still { dx ≡ pos 0 → dy ≡ pos 0 → self.new.roll.made ≡ self.old.roll.made }
         ensures grows { self.old.roll.made ≤ self.new.roll.made }

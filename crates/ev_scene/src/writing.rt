@@ -1,10 +1,10 @@
 // What a text object says, and by which font.
-ghost use Rattle.std.specs.Prelude.{◌≡◌, ◌+◌, ◌≤◌};
+ghost use Rattle.std.specs.Prelude.{◌≡◌, ◌+◌, ◌≤◌, IfErr};
 ghost use Rattle.ev_model.specs.Glyphs.{IsText};
 ghost use Rattle.ev_model.specs.declared.command.Edit.TheVariants as edit;
-ghost use Rattle.ev_scene.specs.Cast.{IsCast, board_of};
+ghost use Rattle.ev_scene.specs.Cast.{IsCast, kept_of, board_of};
 ghost use Rattle.ev_scene.specs.Change.{write_part, written};
-ghost use Rattle.ev_scene.specs.Edits.{Edits};
+ghost use Rattle.ev_scene.specs.Edits.{Edits, IsLeft};
 
 use crate::cast::Cast;
 use crate::change::Change;
@@ -47,6 +47,7 @@ impl Cast {
         requires whole { IsCast self.old }
         ensures whole { IsCast self.new }
         ensures edits { Edits (board_of self.old) (edit.Font name.now key) result (board_of self.new) }
+        ensures refused { IfErr result (λ cause. IsLeft (kept_of self.old) cause (kept_of self.new)) }
         ensures made { self.new.roll.made ≤ self.old.roll.made + 1 }
         ensures grows { self.old.roll.made ≤ self.new.roll.made }
     {
@@ -67,6 +68,7 @@ impl Cast {
         requires text { IsText text.now }
         ensures whole { IsCast self.new }
         ensures edits { Edits (board_of self.old) (edit.Say name.now text.entry) result (board_of self.new) }
+        ensures refused { IfErr result (λ cause. IsLeft (kept_of self.old) cause (kept_of self.new)) }
         ensures made { self.new.roll.made ≤ self.old.roll.made + 1 }
         ensures grows { self.old.roll.made ≤ self.new.roll.made }
     {

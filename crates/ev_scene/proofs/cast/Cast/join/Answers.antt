@@ -1,5 +1,5 @@
-use Rattle.std.proofs.Common.{refl}
-use Rattle.ev_scene.specs.Board.{values_of}
+use Rattle.std.proofs.Common.{refl, ap}
+use Rattle.ev_scene.specs.Board.{values_of, board}
 use Rattle.ev_scene.proofs.Rehoming.{members_known}
 use Rattle.ev_scene.proofs.Verdicts.{join_refuses, join_allows, join_kept, join_moved, wanting}
 use Rattle.ev_scene.proofs.cast.Cast.join.Goals as goal
@@ -32,7 +32,7 @@ returns-in_err-rehome-clause-edits c =
     (join_allows c.args.self.now.w c.args.self.now.h (values_of c.args.self.now.roll.states) c.args.self.now.groups c.args.self.now.links c.requires.whole c.len-ties.ensures.sound
     c.args.name.now c.args.smart.now c.in-Some.object.now c.in-Some-named.parent.now (c.in-Some.ensures).value (c.in-Some-named.ensures).value (c.in-Some.ensures).there (c.in-Some-named.ensures).there
     (c.in_default-join_fault.ensures).value)
-    c.from_residual.ensures.1 (c.in_err-rehome.ensures).err
+    c.from_residual.ensures.1 (ap board (c.in_err-rehome.ensures).err)
 
 pub returns-clause-edits : goal.returns-clause-edits
 returns-clause-edits c = (

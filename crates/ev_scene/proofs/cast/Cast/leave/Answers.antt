@@ -1,5 +1,5 @@
-use Rattle.std.proofs.Common.{refl}
-use Rattle.ev_scene.specs.Board.{values_of}
+use Rattle.std.proofs.Common.{refl, ap}
+use Rattle.ev_scene.specs.Board.{values_of, board}
 use Rattle.ev_scene.proofs.Rehoming.{not_top}
 use Rattle.ev_scene.proofs.Verdicts.{leave_refuses, leave_allows, leave_kept, leave_moved, wanting}
 use Rattle.ev_scene.proofs.cast.Cast.leave.Goals as goal
@@ -32,7 +32,7 @@ returns-in_err-rehome-clause-edits c =
     (leave_allows c.args.self.now.w c.args.self.now.h (values_of c.args.self.now.roll.states) c.args.self.now.groups c.args.self.now.links c.requires.whole c.len-ties.ensures.sound
     c.args.name.now c.in-Some.object.now (c.in-Some.ensures).value (c.in-Some.ensures).there
     c.in_default-leave_fault.ensures)
-    c.from_residual.ensures.1 (c.in_err-rehome.ensures).err
+    c.from_residual.ensures.1 (ap board (c.in_err-rehome.ensures).err)
 
 pub returns-clause-edits : goal.returns-clause-edits
 returns-clause-edits c = (

@@ -13,7 +13,7 @@ remove_from-requires-clause-there c =
 pub returns-in-Err-clause-err : goal.returns-in-Err-clause-err
 returns-in-Err-clause-err c =
     let short : FitsSigned w32 c.in-Some.object.now.layer = search rules in
-    ap₂ (λ states groups. record { w = c.args.self.now.w; h = c.args.self.now.h; objects = values_of states; groups = groups }) (c.in-Err.ensures).err
+    ap₂ (λ states groups. record { w = c.args.self.now.w; h = c.args.self.now.h; made = c.change.new.self.made; states = states; groups = groups }) (c.in-Err.ensures).err
     (undone c.args.self.now.w c.args.self.now.h (values_of c.args.self.now.roll.states) c.args.self.now.groups c.args.self.now.links c.requires.whole c.args.id c.in-Some.object.now c.args.to (sym c.in-Some.ensures) c.requires.known
     (c.requires.other c.in-Some.object.now (sym c.in-Some.ensures)) c.push_into.new.groups (simp to_z-of_z at (c.in_ok-push_into.ensures).ok) c.remove_from.new.groups c.remove_from.ensures.moved)
 
