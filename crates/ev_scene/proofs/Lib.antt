@@ -7,6 +7,7 @@ pub mod Standing
 pub mod Spreading
 pub mod Shifting
 pub mod Answering
+pub mod SameKinds
 pub mod Capturing
 pub mod Meeting
 pub mod Sighting

@@ -64,7 +64,7 @@ pub record IsSameStand (o o' : Object) : Type 0 where
   pub limits : IsObject o → IsObject o'
 
 -- another way to draw leaves the kind, and keeps the limits
-drawn_kind : (d : Drawing) (content : Content) → kind_of (drawn d content) ≡ kind_of content
+pub drawn_kind : (d : Drawing) (content : Content) → kind_of (drawn d content) ≡ kind_of content
 drawn_kind d content.Rect = refl
 drawn_kind d content.Smart = refl
 drawn_kind d (content.Image part) = refl
@@ -81,7 +81,7 @@ drawn_limits (drawing.Load loaded) (content.Image part) fits old = old
 drawn_limits d (content.Text part) fits old = old
 
 -- another text or font leaves the kind, and keeps the limits
-written_kind : (w : Writing) (content : Content) → kind_of (written w content) ≡ kind_of content
+pub written_kind : (w : Writing) (content : Content) → kind_of (written w content) ≡ kind_of content
 written_kind w content.Rect = refl
 written_kind w content.Smart = refl
 written_kind w (content.Image part) = refl

@@ -3,6 +3,7 @@ pub mod Ties
 pub mod Board
 pub mod Change
 pub mod Edits
+pub mod Kinds
 pub mod Loads
 pub mod Given
 pub mod Captured

@@ -1,11 +1,12 @@
 // A scene that edits change.
-ghost use Rattle.std.specs.Prelude.{◌≡◌, ◌+◌, ◌≤◌, [], ◌∷◌, IfOk, IfErr, IfSome, OnOk, OnErr, option_map, option_and_then, Some};
+ghost use Rattle.std.specs.Prelude.{◌≡◌, ◌+◌, ◌≤◌, [], ◌∷◌, IfOk, IfErr, IfSome, OnOk, OnErr, option_map, option_and_then, Some, false};
 ghost use Rattle.std.specs.Arc.{arc_value};
 ghost use Rattle.ev_model.specs.Content.{kind_of};
 ghost use Rattle.ev_model.specs.Limits.{IsEdit};
 ghost use Rattle.ev_scene.specs.Slots.{of_id, put};
 ghost use Rattle.ev_scene.specs.Board.{board, named};
 ghost use Rattle.ev_scene.specs.Edits.{Edits, IsLeft, writes};
+ghost use Rattle.ev_scene.specs.Kinds.{KeepsKinds, is_delete};
 ghost use Rattle.ev_scene.specs.Loads.{key_of, with_image, with_font};
 
 use crate::NoMemory;
@@ -77,11 +78,13 @@ impl SceneBox {
 
     /// Carries out an edit, or refuses it and leaves the scene as it was, its states included
     /// (docs/SCRIPT.md, "Commands"). An edit takes all its memory before it changes anything: where
-    /// memory is wanting, the states that it made by then count as made, and are gone.
+    /// memory is wanting, the states that it made by then count as made, and are gone. Only `delete`
+    /// takes objects away, and none changes a kind.
     pub fn edit(&mut self, edit: &Edit) -> Result<(), Refusal>
         requires text { IsEdit edit.now }
         ensures edits { Edits (board self.old) edit.now result (board self.new) }
         ensures refused { IfErr result (λ cause. IsLeft self.old cause self.new) }
+        ensures keeps { is_delete edit.now ≡ false → KeepsKinds (board self.old) (board self.new) }
         ensures made { self.new.made ≤ self.old.made + writes (board self.old) edit.now }
         ensures grows { self.old.made ≤ self.new.made }
     {

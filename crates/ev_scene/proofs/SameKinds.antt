@@ -1,0 +1,142 @@
+-- An edit that deletes nothing leaves each object there, and of its kind.
+use Rattle.std.proofs.Common.{◌≡◌, ℕ, suc, ◌+◌, ◌-ℤ◌, ℤ, ◌==◌, arith, List, [], ◌∷◌, Bool, true, false, cond, find, if◌then◌else◌, Option, Some, None, Result, Ok, Err, length, map, refl, ap, subst, sym, ◌∙◌}
+use Rattle.std.specs.List.{cons_option}
+use Rattle.std.specs.Option.{option_map, option_map_or, option_eq}
+use Rattle.std.proofs.lemmas.Option.{none-some, same_Some}
+use Rattle.std.proofs.Math.Bool.{true≢false}
+use Rattle.ev_model.specs.Content.{kind_of}
+use Rattle.ev_model.specs.Up.{is_smart}
+use Rattle.ev_model.specs.declared.command.Edit.{Edit}
+use Rattle.ev_model.specs.declared.command.Edit.TheVariants as edit
+use Rattle.ev_model.specs.declared.content.Fill.TheVariants.{Filled}
+use Rattle.ev_model.specs.declared.content.Kind.{Kind}
+use Rattle.ev_model.specs.declared.object.Object.{Object}
+use Rattle.ev_model.specs.declared.refusal.Refusal.{Refusal}
+use Rattle.ev_links.specs.Ties.{has}
+use Rattle.ev_scene.specs.Slots.{of_id, put, live}
+use Rattle.ev_scene.specs.Board.{Board, Kept, board, named, inside, is_named}
+use Rattle.ev_scene.specs.Cast.{IsCast, kept_of, board_of}
+use Rattle.ev_scene.specs.Change.{apply, fresh, color_of, fill_of, border_of}
+use Rattle.ev_scene.specs.Edits.{Edits, effect, with_named, changed, shifted_by, shifted_all, moved, made, next_id, homed, rehomed}
+use Rattle.ev_scene.specs.Kinds.{kind_at, KeepsKinds, is_delete}
+use Rattle.ev_scene.specs.declared.cast.Cast.{Cast}
+use Rattle.ev_scene.specs.declared.change.Change.{Change}
+use Rattle.ev_scene.specs.declared.change.Change.TheVariants as change
+use Rattle.ev_scene.specs.declared.drawing.Drawing.TheVariants as drawing
+use Rattle.ev_scene.specs.declared.writing.Writing.TheVariants as writing
+use Rattle.ev_scene.proofs.Places.{at_place, of_id_suc, of_id_put, of_id_end, of_id_map, past_end}
+use Rattle.ev_scene.proofs.Standing.{drawn_kind, written_kind}
+
+abbrev kind_in : Option Object → Option Kind
+kind_in x = option_map (λ o. kind_of o.content) x
+
+-- a change leaves the kind
+change_kind : (c : Change) (o : Object) → kind_of (apply c o).content ≡ kind_of o.content
+change_kind (change.Place x y) o = refl
+change_kind (change.Side w h) o = refl
+change_kind (change.Appear on) o = refl
+change_kind (change.Paint color) o = refl
+change_kind (change.Treat op) o = refl
+change_kind (change.Lift layer) o = refl
+change_kind (change.Draw d) o = drawn_kind d o.content
+change_kind (change.Write w) o = written_kind w o.content
+change_kind (change.Clip clipper) o = refl
+change_kind (change.Enter parent) o = refl
+
+-- where each object stands under its id, so does the object of a name
+stands_at : (objects : List (Option Object)) → ((id : ℕ) (o : Object) → of_id objects id ≡ Some o → o.id ≡ id) → (j : ℕ) (o : Object) → at_place objects j ≡ Some o → of_id objects o.id ≡ Some o
+stands_at objects own j o at = let there = of_id_suc objects j ∙ at in ap (of_id objects) (own (suc j) o there) ∙ there
+
+found_at : (test : Object → Bool) (slots : List (Option Object)) (o : Object) → find test (live slots) ≡ Some o → (j : ℕ) × (at_place slots j ≡ Some o)
+found_at test [] o e = absurd (none-some o e)
+found_at test (None ∷ slots) o e = let later = found_at test slots o e in (suc later.0, later.1)
+found_at test (Some x ∷ slots) o e = go (test x) e (found_at test slots o) where
+  go : (b : Bool) → cond b (Some x) (find test (live slots)) ≡ Some o → (find test (live slots) ≡ Some o → (j : ℕ) × (at_place slots j ≡ Some o)) → (j : ℕ) × (at_place (Some x ∷ slots) j ≡ Some o)
+  go true e later = (0, e)
+  go false e later = let found = later e in (suc found.0, found.1)
+
+pub named_own : (objects : List (Option Object)) → ((id : ℕ) (o : Object) → of_id objects id ≡ Some o → o.id ≡ id) → (name : List ℕ) (o : Object) → named objects name ≡ Some o → of_id objects o.id ≡ Some o
+named_own objects own name o e = let found = found_at (is_named name) objects o e in stands_at objects own found.0 o found.1
+
+module _ (scene : Board) (own : (name : List ℕ) (o : Object) → named scene.objects name ≡ Some o → of_id scene.objects o.id ≡ Some o) where
+  keeps_changed : (c : Change) (o : Object) → of_id scene.objects o.id ≡ Some o → KeepsKinds scene (changed c scene o)
+  keeps_changed c o at other kind is = ap kind_in (of_id_put scene.objects o.id other o (Some (apply c o)) at) ∙ go (other == o.id) refl where
+    same : (other == o.id) ≡ true → other ≡ o.id
+    same e = grind arith
+
+    go : (t : Bool) → (other == o.id) ≡ t → kind_in (cond t (Some (apply c o)) (of_id scene.objects other)) ≡ Some kind
+    go true e = ap Some (change_kind c o) ∙ sym (ap kind_in at) ∙ ap (λ id. kind_at scene id) (sym (same e)) ∙ is
+    go false e = is
+
+  keeps_named : (name : List ℕ) (make : Object → Board) → ((o : Object) → of_id scene.objects o.id ≡ Some o → KeepsKinds scene (make o)) → KeepsKinds scene (with_named scene name make)
+  keeps_named name make each = go (named scene.objects name) (own name) where
+    go : (x : Option Object) → ((o : Object) → x ≡ Some o → of_id scene.objects o.id ≡ Some o) → KeepsKinds scene (option_map_or make x scene)
+    go None own = λ id kind is. is
+    go (Some o) own = each o (own o refl)
+
+  keeps_one : (c : Change) (name : List ℕ) → KeepsKinds scene (with_named scene name (changed c scene))
+  keeps_one c name = keeps_named name (changed c scene) (keeps_changed c)
+
+  keeps_shifted : (dx dy : ℤ) (o : Object) → KeepsKinds scene (shifted_all dx dy scene o)
+  keeps_shifted dx dy o id kind is = ap kind_in (of_id_map (λ p. if has (inside scene o) p.id then shifted_by dx dy p else p) scene.objects id) ∙ go (of_id scene.objects id) ∙ is where
+    one : (b : Bool) (p : Object) → kind_of (if b then shifted_by dx dy p else p).content ≡ kind_of p.content
+    one true p = refl
+    one false p = refl
+
+    go : (x : Option Object) → kind_in (option_map (λ p. if has (inside scene o) p.id then shifted_by dx dy p else p) x) ≡ kind_in x
+    go None = refl
+    go (Some p) = ap Some (one (has (inside scene o) p.id) p)
+
+  keeps_moved : (x y : ℤ) (o : Object) → of_id scene.objects o.id ≡ Some o → KeepsKinds scene (moved x y scene o)
+  keeps_moved x y o at = go (is_smart o) where
+    go : (b : Bool) → KeepsKinds scene (if b then shifted_all (x -ℤ o.rect.x) (y -ℤ o.rect.y) scene o else changed (change.Place x y) scene o)
+    go true = keeps_shifted (x -ℤ o.rect.x) (y -ℤ o.rect.y) o
+    go false = keeps_changed (change.Place x y) o at
+
+  keeps_homed : (parent : Option ℕ) (o : Object) → of_id scene.objects o.id ≡ Some o → KeepsKinds scene (homed parent scene o)
+  keeps_homed parent o at = go (option_eq ◌==◌ o.parent parent) where
+    go : (b : Bool) → KeepsKinds scene (if b then scene else rehomed parent scene o)
+    go true = λ id kind is. is
+    go false = keeps_changed (change.Enter parent) o at
+
+  keeps_made : (o : Object) → KeepsKinds scene (made scene o)
+  keeps_made o id kind is = ap kind_in (of_id_end scene.objects id (Some o)) ∙ go (id == length scene.objects + 1) refl where
+    same : (id == length scene.objects + 1) ≡ true → id ≡ length scene.objects + 1
+    same e = grind arith
+
+    go : (b : Bool) → (id == length scene.objects + 1) ≡ b → kind_in (cond b (Some o) (of_id scene.objects id)) ≡ Some kind
+    go true e = absurd (none-some kind (sym (ap kind_in (ap (of_id scene.objects) (same e) ∙ past_end scene.objects)) ∙ is))
+    go false e = is
+
+  keeps_effect : (e : Edit) → is_delete e ≡ false → KeepsKinds scene (effect scene e)
+  keeps_effect (edit.Size w h) other = λ id kind is. is
+  keeps_effect (edit.Make name kind) other = keeps_made (fresh (next_id scene) name kind)
+  keeps_effect (edit.Delete name) other = absurd (true≢false other)
+  keeps_effect (edit.Move name x y) other = keeps_named name (moved x y scene) (keeps_moved x y)
+  keeps_effect (edit.Resize name w h) other = keeps_one (change.Side w h) name
+  keeps_effect (edit.Show name on) other = keeps_one (change.Appear on) name
+  keeps_effect (edit.Color name r g b a) other = keeps_one (change.Paint (color_of r g b a)) name
+  keeps_effect (edit.SetOp name op) other = keeps_one (change.Treat op) name
+  keeps_effect (edit.Layer name layer) other = keeps_named name _ (keeps_changed (change.Lift layer))
+  keeps_effect (edit.Raise name up) other = keeps_named name _ (λ o there id kind at. at)
+  keeps_effect (edit.Place name next above) other = keeps_named name _ (λ o there. keeps_named next _ (λ p its id kind at. at))
+  keeps_effect (edit.Clip name clipper) other = keeps_named name _ (λ o there. keeps_named clipper _ (λ c its. keeps_changed (change.Clip (Some c.id)) o there))
+  keeps_effect (edit.Unclip name) other = keeps_one (change.Clip None) name
+  keeps_effect (edit.Member name smart) other = keeps_named name _ (λ o there. keeps_named smart _ (λ s its. keeps_homed (Some s.id) o there))
+  keeps_effect (edit.Free name) other = keeps_named name _ (keeps_homed None)
+  keeps_effect (edit.File name key) other = keeps_one (change.Draw (drawing.File key)) name
+  keeps_effect (edit.Font name key) other = keeps_one (change.Write (writing.Font key)) name
+  keeps_effect (edit.Say name text) other = keeps_one (change.Write (writing.Say text.now)) name
+  keeps_effect (edit.Fill name x y w h) other = keeps_one (change.Draw (drawing.Fill (fill_of x y w h))) name
+  keeps_effect (edit.Filled name) other = keeps_one (change.Draw (drawing.Fill Filled)) name
+  keeps_effect (edit.Border name l r t b) other = keeps_one (change.Draw (drawing.Border (border_of l r t b))) name
+  keeps_effect (edit.Center name on) other = keeps_one (change.Draw (drawing.Center on)) name
+
+  pub keeps_edit : {T : Type 0} (new : Board) (e : Edit) (result : Result T Refusal) → Edits scene e result new → is_delete e ≡ false → KeepsKinds scene new
+  keeps_edit new e (Ok done) edits other = subst (λ new. KeepsKinds scene new) (sym edits.1) (keeps_effect e other)
+  keeps_edit new e (Err cause) edits other = subst (λ new. KeepsKinds scene new) (sym edits.1) (λ id kind is. is)
+
+-- the same of what stands for a scene
+pub edit_keeps : {T : Type 0} (old : Cast) (kept : Kept) → kept_of old ≡ kept → IsCast old → (new : Board) (e : Edit) (result : Result T Refusal) → Edits (board_of old) e result new → is_delete e ≡ false → KeepsKinds (board kept) new
+edit_keeps old kept is whole new e result edits other =
+    subst (λ kept. KeepsKinds (board kept) new) is (keeps_edit (board_of old) (named_own (board_of old).objects whole.own) new e result edits other)
