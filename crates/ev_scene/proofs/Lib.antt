@@ -13,6 +13,8 @@ pub mod Meeting
 pub mod Sighting
 pub mod Ways
 pub mod Nesting
+pub mod Members
+pub mod Orders
 pub mod Trees
 pub mod Differing
 pub mod Refusing

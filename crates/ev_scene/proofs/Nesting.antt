@@ -90,11 +90,11 @@ all_differ (x ∷ xs) distinct (suc i) (suc j) d less few = all_differ xs distin
 -- ---- ways
 
 -- what an id on a way leads to stands on the way
-starts : (over : ℕ → Option ℕ) (x q : ℕ) (way : List ℕ) → IsWay over x way → over x ≡ Some q → Has q way
+pub starts : (over : ℕ → Option ℕ) (x q : ℕ) (way : List ℕ) → IsWay over x way → over x ≡ Some q → Has q way
 starts over x q [] p e = absurd (none-some q (sym p ∙ e))
 starts over x q (w ∷ way) p e = inl (same_Some w q (sym p.0 ∙ e))
 
-leads_along : (over : ℕ → Option ℕ) (x y q : ℕ) (way : List ℕ) → IsWay over x way → Has y way → over y ≡ Some q → Has q way
+pub leads_along : (over : ℕ → Option ℕ) (x y q : ℕ) (way : List ℕ) → IsWay over x way → Has y way → over y ≡ Some q → Has q way
 leads_along over x y q [] p h e = absurd h
 leads_along over x y q (w ∷ way) p h e =
     elim h [
@@ -113,7 +113,7 @@ restart over x y [] same p = same ∙ p
 restart over x y (w ∷ way) same p = (same ∙ p.0, p.1)
 
 -- so they don't stand both on one way
-alone : (over : ℕ → Option ℕ) (x y z : ℕ) (way : List ℕ) → IsWay over x way → over y ≡ over z → Has y (x ∷ way) → Has z (x ∷ way) → y ≡ z
+pub alone : (over : ℕ → Option ℕ) (x y z : ℕ) (way : List ℕ) → IsWay over x way → over y ≡ over z → Has y (x ∷ way) → Has z (x ∷ way) → y ≡ z
 alone over x y z [] p same h k = elim h [ inl first ↦ elim k [ inl second ↦ sym first ∙ second | inr later ↦ absurd later ] | inr before ↦ absurd before ]
 alone over x y z (w ∷ way) p same h k =
     elim h [

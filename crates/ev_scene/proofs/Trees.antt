@@ -1,14 +1,16 @@
 -- Where the objects of a scene stand in its order, by what they stand in.
-use Rattle.std.proofs.Common.{◌≡◌, ◌≢◌, ℕ, zero, suc, ℤ, ◌<◌, Bool, true, false, ◌==◌, if◌then◌else◌, List, [], ◌∷◌, length, get_or, Option, Some, None, is_some, All, inl, inr, refl, sym, subst, ap, ap₂, ◌∙◌, arith, eq-eqb}
+use Rattle.std.proofs.Common.{◌≡◌, ◌≢◌, ℕ, zero, suc, ℤ, ◌<◌, ◌≤ℤ◌, filter, Bool, true, false, ◌==◌, if◌then◌else◌, List, [], ◌∷◌, length, get_or, Option, Some, None, is_some, All, inl, inr, refl, sym, subst, ap, ap₂, ◌∙◌, arith, eq-eqb}
 use Rattle.std.proofs.lemmas.Bool.Decides.{nat_tests, eqb_tells}
 use Rattle.std.proofs.lemmas.Option.{none-some, same_Some}
 use Rattle.std.proofs.Math.Bool.{true≢false}
 use Rattle.std.specs.Prelude.{IsTrue, filter_map}
 use Rattle.std.specs.FinMap.{get, len}
-use Rattle.std.specs.List.{cons_option}
-use Rattle.std.specs.Option.{option_map, option_and_then}
+use Rattle.std.specs.List.{cons_option, AllPairs}
+use Rattle.std.specs.Option.{option_map, option_and_then, option_eq}
+use Rattle.std.proofs.lemmas.List.Kept.{AllPairs-cons}
 use Rattle.ev_model.specs.Chain.{ends}
 use Rattle.ev_model.specs.Content.{kind_of}
+use Rattle.ev_model.specs.Order as order
 use Rattle.ev_model.specs.Order.{ids}
 use Rattle.ev_model.specs.Up.{with_id, next, is_smart, is_smart_content}
 use Rattle.ev_model.specs.declared.content.Content.{Content}
@@ -25,9 +27,11 @@ use Rattle.ev_links.proofs.Whole.{walk_whole}
 use Rattle.ev_scene.specs.Slots.{of_id, live}
 use Rattle.ev_scene.specs.Board.{Board, ids_in, inside, stage_of}
 use Rattle.ev_scene.specs.Ties.{tie_of, layer_at}
+use Rattle.ev_scene.specs.Sound.{IsSound as IsSoundStage}
 use Rattle.ev_scene.specs.Whole.{IsWhole}
 use Rattle.ev_scene.proofs.Places.{of_id_suc, found, none_found}
 use Rattle.ev_scene.proofs.Standing.{stands_in}
+use Rattle.ev_scene.proofs.Members as mem
 use Rattle.ev_scene.proofs.Nesting as nest
 use Rattle.ev_scene.proofs.Ways as way
 
@@ -52,9 +56,55 @@ distinct_ids : (xs : List (ℕ × ℤ)) → stack.IsDistinct xs → IsDistinct (
 distinct_ids [] d = tt
 distinct_ids (one ∷ xs) d = (away xs one.0 d.0, distinct_ids xs d.1)
 
-nothing_twice : (xs : List (ℕ × ℤ)) → ((x : ℕ) → ¬ Has x (ids_of xs)) → stack.IsDistinct xs
-nothing_twice [] none = tt
-nothing_twice (one ∷ xs) none = absurd (none one.0 (inl refl))
+no_order : (xs : List (ℕ × ℤ)) → ((x : ℕ) → ¬ Has x (ids_of xs)) → stack.IsOrder xs
+no_order [] none = record { layered = tt; distinct = tt }
+no_order (one ∷ xs) none = absurd (none one.0 (inl refl))
+
+-- objects in the layers that a group has for them
+abbrev Stand : List (ℕ × ℤ) → List Object → Type 0
+Stand group [] = Unit {0}
+Stand group (o ∷ objects) = (layer_in group o.id ≡ Some o.layer) × Stand group objects
+
+not_below : (layer : ℤ) (group : List (ℕ × ℤ)) → stack.IsFrom layer group → (id : ℕ) (other : ℤ) → layer_in group id ≡ Some other → layer ≤ℤ other
+not_below layer [] from id other e = absurd (none-some other e)
+not_below layer (one ∷ rest) from id other e =
+    elim (eqb_tells one.0 id) [
+      | inl same ↦ subst (λ other. layer ≤ℤ other) (same_Some one.1 other (rw same.0 at e)) from.0
+      | inr differ ↦ not_below layer rest from.1 id other (rw differ.0 at e)
+    ]
+
+none_below : (layer : ℤ) (group : List (ℕ × ℤ)) → stack.IsFrom layer group → (objects : List Object) → Stand group objects → All (λ o. layer ≤ℤ o.layer) objects
+none_below layer group from [] stand k d low = absurd (omega (arith, low))
+none_below layer group from (o ∷ objects) stand zero d low = not_below layer group from o.id o.layer stand.0
+none_below layer group from (o ∷ objects) stand (suc k) d low = none_below layer group from objects stand.1 k d (omega (arith, low))
+
+stand_in_rest : (one : ℕ × ℤ) (rest : List (ℕ × ℤ)) (objects : List Object) → ¬ Has one.0 (ids objects) → Stand (one ∷ rest) objects → Stand rest objects
+stand_in_rest one rest [] away stand = tt
+stand_in_rest one rest (o ∷ objects) away stand =
+    (elim (eqb_tells one.0 o.id) [ inl same ↦ absurd (away (inl (sym same.1))) | inr differ ↦ rw differ.0 at stand.0 ], stand_in_rest one rest objects (λ h. away (inr h)) stand.1)
+
+none_rising : (objects : List Object) → ids objects ≡ [] → AllPairs (λ a b. a.layer ≤ℤ b.layer) objects
+none_rising [] e = λ i j d less few. absurd (omega (arith, few))
+none_rising (o ∷ objects) e = absurd (let size = ap length e in omega (arith, size))
+
+-- objects in the order of a group have layers that never fall
+rising : (group : List (ℕ × ℤ)) → stack.IsDistinct group → stack.IsLayered group → (objects : List Object) → ids objects ≡ ids_of group → Stand group objects → AllPairs (λ a b. a.layer ≤ℤ b.layer) objects
+rising [] distinct layered objects e stand = none_rising objects e
+rising (one ∷ rest) distinct layered [] e stand = none_rising [] refl
+rising (one ∷ rest) distinct layered (o ∷ objects) e stand =
+    let later : ids objects ≡ ids_of rest = ap tail e in
+    let stand_on : Stand rest objects = stand_in_rest one rest objects (λ h. away rest one.0 distinct.0 (subst (Has one.0) later h)) stand.1 in
+    let same : (one.0 == o.id) ≡ true = eq-eqb one.0 o.id (sym (ap (first o.id) e)) in
+    let own : one.1 ≡ o.layer = same_Some one.1 o.layer (rw same at stand.0) in
+    AllPairs-cons (λ a b. a.layer ≤ℤ b.layer) o objects (subst (λ layer. All (λ u. layer ≤ℤ u.layer) objects) own (none_below one.1 rest layered.0 objects stand_on)) (rising rest distinct.1 layered.1 objects later stand_on)
+  where
+    tail : List ℕ → List ℕ
+    tail [] = []
+    tail (x ∷ xs) = xs
+
+    first : ℕ → List ℕ → ℕ
+    first d [] = d
+    first d (x ∷ xs) = x
 
 some_mapped : {A B : Type 0} (f : A → B) (o : Option A) → is_some (option_map f o) ≡ true → is_some o ≡ true
 some_mapped f None e = absurd (true≢false (sym e))
@@ -184,12 +234,12 @@ module _ (w h : ℕ) (objects : List (Option Object)) (groups : List (List (ℕ 
       go None e t = true≢false (sym t)
       go (Some o) e t = led o.parent (parent_is x o e) (at_place_of (suc k) o t)
 
-    -- where no sibling of the order stands twice, none does
-    pub once_in_order : stack.IsDistinct (group groups None) → ((id : ℕ) → Has id (ids_in board None) → stack.IsDistinct (group groups (Some id))) → (at : ℕ) → stack.IsDistinct (get_or groups at [])
-    once_in_order top each zero = top
-    once_in_order top each (suc k) = go (of_id objects (suc k)) refl where
-      go : (f : Option Object) → of_id objects (suc k) ≡ f → stack.IsDistinct (group groups (Some (suc k)))
-      go None e = nothing_twice (group groups (Some (suc k))) (λ x. none_in k x e)
+    -- where those that stand together in the order are an order, all are
+    pub all_orders : stack.IsOrder (group groups None) → ((id : ℕ) → Has id (ids_in board None) → stack.IsOrder (group groups (Some id))) → (at : ℕ) → stack.IsOrder (get_or groups at [])
+    all_orders top each zero = top
+    all_orders top each (suc k) = go (of_id objects (suc k)) refl where
+      go : (f : Option Object) → of_id objects (suc k) ≡ f → stack.IsOrder (group groups (Some (suc k)))
+      go None e = no_order (group groups (Some (suc k))) (λ x. none_in k x e)
       go (Some o) e = each (suc k) (reached (suc k) (ap is_some e))
 
     -- where no sibling stands twice, nothing stands twice in the order
@@ -258,6 +308,87 @@ module _ (w h : ℕ) (objects : List (Option Object)) (groups : List (List (ℕ 
     -- each way up in the order comes to an end
     pub ways : All (λ o. IsTrue (ends (length (stage_of board).objects) (next (stage_of board).objects) (next (stage_of board).objects o))) (stage_of board).objects
     ways k d h = way.ways (stage_of board).objects (get ties) (λ id. whole.tied id ∙ ap (option_map tie_of) (sym (order_found id))) sound _ (order_found _ ∙ order_own k d h)
+
+    -- where no sibling stands twice, the objects stand in the order of painting
+    module _ (once : (at : ℕ) → stack.IsDistinct (get_or groups at [])) where
+      abbrev painted : List Object
+      painted = (stage_of board).objects
+
+      few_live : (x : ℕ) → is_there x ≡ true → length (along x).0 < length (live objects)
+      few_live x there = fits x (along x).0 there (along x).1
+
+      few_painted : (x : ℕ) → is_there x ≡ true → length (along x).0 < length painted
+      few_painted x there = go (of_id objects x) refl there where
+        go : (f : Option Object) → of_id objects x ≡ f → is_some f ≡ true → length (along x).0 < length painted
+        go None e t = absurd (true≢false (sym t))
+        go (Some o) e t =
+            let own : o.id ≡ x = whole.own x o e in
+            way.shorter_than_all painted (λ o. o.parent) over (λ o there. parent_is o.id o (sym (order_found o.id) ∙ there)) (λ q to e. ap is_some (order_found to) ∙ known q to e)
+            o (along x).0 (order_found o.id ∙ ap (of_id objects) own ∙ e) (subst (λ n. IsWay over n (along x).0) (sym own) (along x).1)
+
+      once_ids : (parent : Option ℕ) → IsDistinct (siblings groups parent)
+      once_ids parent = distinct_ids (group groups parent) (once (place parent))
+
+      abbrev picked : Option ℕ → List ℕ → List ℕ
+      picked parent xs = filter (λ x. option_eq ◌==◌ (over x) parent) xs
+
+      -- the objects of a parent, by their ids
+      members_ids : (parent : Option ℕ) (xs : List ℕ) → ((x : ℕ) → Has x xs → is_there x ≡ true) → ids (order.members (listed xs) parent) ≡ picked parent xs
+      members_ids parent [] there = refl
+      members_ids parent (x ∷ xs) there = go (of_id objects x) refl (there x (inl refl)) (members_ids parent xs (λ y h. there y (inr h))) where
+        choice : (b : Bool) (o : Object) (rest : List Object) (rest' : List ℕ) → o.id ≡ x → ids rest ≡ rest' → ids (if b then o ∷ rest else rest) ≡ (if b then x ∷ rest' else rest')
+        choice true o rest rest' own later = ap₂ ◌∷◌ own later
+        choice false o rest rest' own later = later
+
+        go : (f : Option Object) → of_id objects x ≡ f → is_some f ≡ true → ids (order.members (listed xs) parent) ≡ picked parent xs → ids (order.members (cons_option f (listed xs)) parent) ≡ picked parent (x ∷ xs)
+        go None e t later = absurd (true≢false (sym t))
+        go (Some o) e t later =
+            choice (option_eq ◌==◌ o.parent parent) o (order.members (listed xs) parent) (picked parent xs) (whole.own x o e) later
+            ∙ ap (λ over. if option_eq ◌==◌ over parent then x ∷ picked parent xs else picked parent xs) (sym (parent_is x o e))
+
+      members_are : (parent : Option ℕ) → nest.IsParent is_there parent → ids (order.members painted parent) ≡ siblings groups parent
+      members_are parent there =
+          members_ids parent (ids_in board None) listed_there
+          ∙ mem.members_in_order (siblings groups) over is_there known stands members along once_ids (length (live objects)) few_live parent there
+
+      painted_order : order.in_order (length painted) (λ parent. ids (order.members painted parent)) None ≡ ids painted
+      painted_order =
+          mem.same_order (siblings groups) over is_there known stands members along once_ids (λ parent. ids (order.members painted parent)) members_are (length painted) (length (live objects)) few_painted few_live
+          ∙ sym (listed_ids (ids_in board None) listed_there)
+
+      -- each has its layer in the group of its parent
+      members_stand : (parent : Option ℕ) (xs : List ℕ) → Stand (group groups parent) (order.members (listed xs) parent)
+      members_stand parent [] = tt
+      members_stand parent (x ∷ xs) = go (of_id objects x) refl (members_stand parent xs) where
+        choice : (b : Bool) (o : Object) (rest : List Object) → (b ≡ true → layer_in (group groups parent) o.id ≡ Some o.layer) → Stand (group groups parent) rest → Stand (group groups parent) (if b then o ∷ rest else rest)
+        choice true o rest here later = (here refl, later)
+        choice false o rest here later = later
+
+        go : (f : Option Object) → of_id objects x ≡ f → Stand (group groups parent) (order.members (listed xs) parent) → Stand (group groups parent) (order.members (cons_option f (listed xs)) parent)
+        go None e later = later
+        go (Some o) e later =
+            choice (option_eq ◌==◌ o.parent parent) o (order.members (listed xs) parent)
+            (λ same. subst (λ parent. layer_in (group groups parent) o.id ≡ Some o.layer) (mem.is_over o.parent parent same) (stands_in w h objects groups ties whole o.id o (ap (of_id objects) (whole.own x o e) ∙ e)))
+            later
+
+      painted_layers : ((at : ℕ) → stack.IsLayered (get_or groups at [])) → (parent : Option ℕ) → AllPairs (λ a b. a.layer ≤ℤ b.layer) (order.members painted parent)
+      painted_layers layered None = rising (group groups None) (once 0) (layered 0) (order.members painted None) (members_are None tt) (members_stand None (ids_in board None))
+      painted_layers layered (Some q) = go (is_there q) refl where
+        go : (b : Bool) → is_there q ≡ b → AllPairs (λ a b. a.layer ≤ℤ b.layer) (order.members painted (Some q))
+        go true there = rising (group groups (Some q)) (once q) (layered q) (order.members painted (Some q)) (members_are (Some q) there) (members_stand (Some q) (ids_in board None))
+        go false gone =
+            none_rising (order.members painted (Some q))
+            (members_ids (Some q) (ids_in board None) listed_there
+            ∙ mem.none_picked (siblings groups) over is_there known stands members along once_ids (Some q) (ids_in board None) (λ y h e. true≢false (sym (known y q e) ∙ gone)))
+
+    -- the scene, as it is painted
+    pub sound_stage : ((at : ℕ) → stack.IsOrder (get_or groups at [])) → IsSoundStage (stage_of board)
+    sound_stage orders = record {
+      distinct = nest.all_differ _ (order_once (λ at. (orders at).distinct));
+      order = record { order = painted_order (λ at. (orders at).distinct); layers = painted_layers (λ at. (orders at).distinct) (λ at. (orders at).layered) };
+      links = λ k d h. way.linked (stage_of board).objects (get ties) (λ id. whole.tied id ∙ ap (option_map tie_of) (sym (order_found id))) sound _ (order_found _ ∙ order_own k d h);
+      ways = ways;
+    }
 
     -- the places of an object are itself and its way
     places_are : (x : ℕ) → is_there x ≡ true → places_of ties x ≡ x ∷ (along x).0

@@ -10,6 +10,7 @@ use Rattle.ev_model.specs.declared.scene.Scene.{Scene}
 use Rattle.ev_stack.specs.Order.{IsOrder}
 use Rattle.ev_links.specs.Ties.{Has}
 use Rattle.ev_groups.specs.Groups.{group}
+use Rattle.ev_scene.specs.Sound.{IsSound}
 
 -- those that stand in no object are an order, and so are the members of each of these ids
 pub record AreOrders (groups : List (List (ℕ × ℤ))) (ids : List ℕ) : Type 0 where
@@ -30,15 +31,15 @@ pub record Shot : Type 0 where
   pub scene : Scene
   pub records : List Record
 
--- the scene keeps its limits, the ids of its objects differ, the records are its looks in their order, their ids differ as well, and
--- their areas lie on its canvas
+-- the scene keeps its limits and is sound, the records are its looks in their order, their ids differ, and their areas lie on its
+-- canvas
 pub record IsShot (shot : Shot) : Type 0 where
   pub w_low : 1 ≤ shot.scene.w
   pub w_high : shot.scene.w ≤ 4096
   pub h_low : 1 ≤ shot.scene.h
   pub h_high : shot.scene.h ≤ 4096
   pub objects : AreObjects shot.scene.objects
-  pub distinct : AllPairs (λ a b. a ≢ b) (ids (stage shot.scene).objects)
+  pub sound : IsSound (stage shot.scene)
   pub looks : map look_of shot.records ≡ looks (stage shot.scene)
   pub apart : AllPairs (λ a b. a ≢ b) (map (λ l. l.id) (map look_of shot.records))
   pub areas : All (λ r. IsOnCanvas shot.scene.w shot.scene.h r.area) shot.records

@@ -6,6 +6,7 @@ pub mod Edits
 pub mod Kinds
 pub mod Loads
 pub mod Given
+pub mod Sound
 pub mod Captured
 pub mod Roll
 pub mod Whole

@@ -109,7 +109,7 @@ impl Cast {
     }
 
     // Who stand together in an object are an order: their group knows it, and tells it here.
-    fn tell_order(&self, parent: Option<u64>)
+    pub fn tell_order(&self, parent: Option<u64>)
         ensures { IsOrder (group self.now.groups parent) }
     {
         let _members = self.groups.group(parent).len();

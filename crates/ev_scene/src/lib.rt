@@ -15,6 +15,7 @@ mod roll;
 mod scene_box;
 mod shift;
 mod sights;
+mod sound;
 mod stacking;
 #[cfg(test)]
 mod tests;

@@ -1,4 +1,4 @@
-use Rattle.std.proofs.Common.{◌≡◌, ◌≢◌, ℕ, List, All, length, map, None, sym, subst}
+use Rattle.std.proofs.Common.{◌≡◌, ◌≢◌, ℕ, List, [], All, length, get_or, map, None, sym, subst}
 use Rattle.std.specs.Prelude.{AllPairs, IsTrue}
 use Rattle.ev_model.specs.Chain.{ends}
 use Rattle.ev_model.specs.Limits.{IsObject}
@@ -6,15 +6,16 @@ use Rattle.ev_model.specs.Order.{ids}
 use Rattle.ev_model.specs.Stage.{Stage, values}
 use Rattle.ev_model.specs.Up.{with_id, next}
 use Rattle.ev_model.specs.declared.object.Object.{Object}
+use Rattle.ev_stack.specs.Order.{IsOrder}
 use Rattle.ev_links.specs.Ties.{IsDistinct}
 use Rattle.ev_scene.specs.Slots.{of_id}
 use Rattle.ev_scene.specs.Board.{values_of, ids_in}
 use Rattle.ev_scene.specs.Cast.{board_of}
+use Rattle.ev_scene.specs.Sound.{IsSound}
 use Rattle.ev_scene.proofs.Bounding.{records_lie}
 use Rattle.ev_scene.proofs.Capturing.{are_objects, holds_in_order}
 use Rattle.ev_scene.proofs.Differing.{looks_differ}
-use Rattle.ev_scene.proofs.Nesting.{all_differ}
-use Rattle.ev_scene.proofs.Trees.{order_found, ways, once_in_order, order_once}
+use Rattle.ev_scene.proofs.Trees.{order_found, ways, all_orders, order_once, sound_stage}
 use Rattle.ev_scene.proofs.cast.Cast.capture.Goals as goal
 
 pub records-requires-clause-found : goal.records-requires-clause-found
@@ -31,18 +32,23 @@ pub invariant_of-result : goal.invariant_of-result
 invariant_of-result c =
     let P : List Object → Type 0 = λ objects. All IsObject objects in
     let Q : List Object → Type 0 = λ objects. IsDistinct (ids objects) in
+    let R : List Object → Type 0 = λ objects. IsSound (record { w = c.args.self.now.w; h = c.args.self.now.h; objects = objects }) in
     let orders = (c.in_ok-objects.ensures).orders in
     let seen : Stage = record { w = c.args.self.now.w; h = c.args.self.now.h; objects = values c.in_ok-objects.objects } in
+    let all : (at : ℕ) → IsOrder (get_or c.args.self.now.groups at []) =
+    all_orders c.args.self.now.w c.args.self.now.h (values_of c.args.self.now.roll.states) c.args.self.now.groups c.args.self.now.links c.requires c.len-ties.ensures.sound orders.top orders.each in
     let once : IsDistinct (ids (values c.in_ok-objects.objects)) =
     subst Q (sym (c.in_ok-objects.ensures).objects) (order_once c.args.self.now.w c.args.self.now.h (values_of c.args.self.now.roll.states) c.args.self.now.groups c.args.self.now.links c.requires c.len-ties.ensures.sound
-    (once_in_order c.args.self.now.w c.args.self.now.h (values_of c.args.self.now.roll.states) c.args.self.now.groups c.args.self.now.links c.requires c.len-ties.ensures.sound orders.top.distinct (λ id h. (orders.each id h).distinct))) in
+    (λ at. (all at).distinct)) in
     record {
       w_low = c.requires.w_low;
       w_high = c.requires.w_high;
       h_low = c.requires.h_low;
       h_high = c.requires.h_high;
       objects = are_objects c.in_ok-objects.objects (subst P (sym (c.in_ok-objects.ensures).objects) (holds_in_order IsObject (values_of c.args.self.now.roll.states) (ids_in (board_of c.args.self.now) None) c.requires.limits));
-      distinct = all_differ _ once;
+      sound =
+          subst R (sym (c.in_ok-objects.ensures).objects)
+          (sound_stage c.args.self.now.w c.args.self.now.h (values_of c.args.self.now.roll.states) c.args.self.now.groups c.args.self.now.links c.requires c.len-ties.ensures.sound all);
       looks = (c.in_ok-records.ensures);
       apart = subst (λ looks. AllPairs (λ a b. a ≢ b) (map (λ l. l.id) looks)) (sym c.in_ok-records.ensures) (looks_differ seen once);
       areas = records_lie seen _ c.in_ok-records.ensures;
