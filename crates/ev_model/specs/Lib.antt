@@ -8,6 +8,7 @@ pub mod Sample
 pub mod Chain
 pub mod Stage
 pub mod Up
+pub mod Captured
 pub mod Look
 pub mod Limits
 pub mod Capture
