@@ -149,7 +149,7 @@ released_tie id (Some p) = ap Some (ap (λ b. if b then record (tie_of p) { clip
     go true = refl
     go false = refl
 
-module _ (w h : ℕ) (objects : List (Option Object)) (groups : List (List (ℕ × ℤ))) (ties : Ties) (whole : IsWhole w h objects groups ties)
+module _ {w h : ℕ} {objects : List (Option Object)} {groups : List (List (ℕ × ℤ))} {ties : Ties} (whole : IsWhole (record { w = w; h = h; objects = objects; groups = groups }) ties)
     (sound : IsSound (get ties)) (o : Object) (there : of_id objects o.id ≡ Some o) where
   abbrev board : Board
   board = record { w = w; h = h; objects = objects; groups = groups }
@@ -165,13 +165,13 @@ module _ (w h : ℕ) (objects : List (Option Object)) (groups : List (List (ℕ 
 
   -- no object has the id 0
   pub none_zero : has gone 0 ≡ false
-  none_zero = nest.has_not gone 0 (λ in_it. true≢false (sym (inside_there w h objects groups ties whole sound o there 0 in_it)))
+  none_zero = nest.has_not gone 0 (λ in_it. true≢false (sym (inside_there whole sound o there 0 in_it)))
 
   -- who is left stands in nothing that went
   parent_left : (q r : ℕ) (p p' : Object) → of_id objects q ≡ Some p → IsLeft gone p p' → p'.parent ≡ Some r → has gone r ≡ true → ⊥
   parent_left q r p p' e l is goes =
       let own : p.id ≡ q = whole.own q p e in
-      true≢false (sym (inside_closed w h objects groups ties whole sound o there q r p e (sym l.parent ∙ is) goes) ∙ ap (has gone) (sym own) ∙ l.stays)
+      true≢false (sym (inside_closed whole sound o there q r p e (sym l.parent ∙ is) goes) ∙ ap (has gone) (sym own) ∙ l.stays)
 
   -- nobody stands in a group that was emptied
   nobody : (at q : ℕ) → has gone at ≡ true → None ≡ option_and_then (layer_at at) (left_at q)
@@ -199,7 +199,7 @@ module _ (w h : ℕ) (objects : List (Option Object)) (groups : List (List (ℕ 
     where
       some : (p : Object) → of_id objects q ≡ Some p → (b : Bool) → has gone p.id ≡ b → layer_at at p ≡ option_and_then (layer_at at) (left gone p)
       some p e true f =
-          let above = inside_above w h objects groups ties whole sound o there q p e (ap (has gone) (sym (whole.own q p e)) ∙ f) differ in
+          let above = inside_above whole sound o there q p e (ap (has gone) (sym (whole.own q p e)) ∙ f) differ in
           no_layer at p (λ here. true≢false (sym above.1.1 ∙ ap (has gone) (ap place (sym above.1.0) ∙ here) ∙ stays)) ∙ sym (ap (option_and_then (layer_at at)) (left_gone gone p f))
       some p e false f = left_layer gone p at f
 
@@ -225,15 +225,15 @@ module _ (w h : ℕ) (objects : List (Option Object)) (groups : List (List (ℕ 
 
         go : (b : Bool) → has gone at ≡ b → layer_in (if b then [] else get_or (gone_from o.parent o groups) at []) q ≡ option_and_then (layer_at at) (left_at q)
         go true e = nobody at q e
-        go false e = ap (λ g. layer_in g q) (get_set groups (place o.parent) at (without (group groups o.parent) o.id) [] (has_group w h objects groups ties whole o.id o there)) ∙ elim (eqb_tells at (place o.parent)) [
+        go false e = ap (λ g. layer_in g q) (get_set groups (place o.parent) at (without (group groups o.parent) o.id) [] (has_group whole o.id o there)) ∙ elim (eqb_tells at (place o.parent)) [
           | inl here ↦ rw here.0 (near e here.1)
           | inr far ↦ rw far.0 (away [] e far.1)
         ]
 
     pub deleted_whole : (objects' : List (Option Object)) (groups' : List (List (ℕ × ℤ))) (ties' : Ties) → objects' ≡ map (λ slot. option_and_then (left gone) slot) objects
-        → groups' ≡ emptied gone (gone_from o.parent o groups) → ((q : ℕ) → get ties' q ≡ option_map tie_of (left_at q)) → IsWhole w h objects' groups' ties'
+        → groups' ≡ emptied gone (gone_from o.parent o groups) → ((q : ℕ) → get ties' q ≡ option_map tie_of (left_at q)) → IsWhole (record { w = w; h = h; objects = objects'; groups = groups' }) ties'
     deleted_whole objects' groups' ties' e f tied' =
-        subst (λ objects. IsWhole w h objects groups' ties') (sym e) (record {
+        subst (λ objects. IsWhole (record { w = w; h = h; objects = objects; groups = groups' }) ties') (sym e) (record {
           w_low = whole.w_low;
           w_high = whole.w_high;
           h_low = whole.h_low;
@@ -262,14 +262,14 @@ module _ (w h : ℕ) (objects : List (Option Object)) (groups : List (List (ℕ 
 
   -- what stands in something that goes goes as well
   pub members_go : (q p : ℕ) → parent_at (get ties) q ≡ Some p → has gone p ≡ true → has gone q ≡ true
-  members_go q p e goes = let u = had (λ tie. tie.parent) q p e in inside_closed w h objects groups ties whole sound o there q p u.0 u.1.0 u.1.1 goes
+  members_go q p e goes = let u = had (λ tie. tie.parent) q p e in inside_closed whole sound o there q p u.0 u.1.0 u.1.1 goes
 
   -- ---- a smart object goes
 
   module _ (smart : is_smart o ≡ true) where
     -- and what has a clipper that goes
     pub clipped_go : (q c : ℕ) → clipper_at (get ties) q ≡ Some c → has gone c ≡ true → has gone q ≡ true
-    clipped_go q c e goes = let u = had (λ tie. tie.clipper) q c e in inside_clipped w h objects groups ties whole sound o there smart q c u.0 u.1.0 u.1.1 goes
+    clipped_go q c e goes = let u = had (λ tie. tie.clipper) q c e in inside_clipped whole sound o there smart q c u.0 u.1.0 u.1.1 goes
 
     same_left : (q : ℕ) → (if has gone q then None else of_id objects q) ≡ left_at q
     same_left q = go (of_id objects q) refl
@@ -283,7 +283,7 @@ module _ (w h : ℕ) (objects : List (Option Object)) (groups : List (List (ℕ 
         free p e f (Some c) g = ap (λ c. option_map_or (has gone) c false) g ∙ off (has gone c) refl
           where
             off : (b : Bool) → has gone c ≡ b → has gone c ≡ false
-            off true i = absurd (true≢false (sym (inside_clipped w h objects groups ties whole sound o there smart q c p e g i) ∙ f))
+            off true i = absurd (true≢false (sym (inside_clipped whole sound o there smart q c p e g i) ∙ f))
             off false i = i
 
         some : (p : Object) → of_id objects q ≡ Some p → (b : Bool) → has gone q ≡ b → (if b then None else Some p) ≡ left gone p
@@ -324,7 +324,7 @@ module _ (w h : ℕ) (objects : List (Option Object)) (groups : List (List (ℕ 
         let same : q ≡ o.id = let test : (q == o.id) ≡ true = sym (has_gone q) ∙ members_go q o.id e itself_gone in grind (arith, nat_tests, test) in
         let u = had (λ tie. tie.parent) o.id o.id (ap (parent_at (get ties)) (sym same) ∙ e) in
         let its : o.parent ≡ Some o.id = ap (λ (p : Object). p.parent) (same_Some _ _ (sym there ∙ u.1.0)) ∙ u.1.1 in
-        true≢false (sym itself_gone ∙ inside_outside w h objects groups ties whole sound o there o.id its)
+        true≢false (sym itself_gone ∙ inside_outside whole sound o there o.id its)
 
     one_left : (q : ℕ) → (if q == o.id then None else option_map (unclipped o.id) (of_id objects q)) ≡ left_at q
     one_left q = go (of_id objects q) refl
@@ -353,7 +353,7 @@ module _ (w h : ℕ) (objects : List (Option Object)) (groups : List (List (ℕ 
         (length-map states' (λ slot. option_map value_of slot) ∙ length-taken mid states' o.id taken ∙ sym (length-map mid (λ slot. option_map value_of slot)) ∙ ap length put_in
         ∙ length-spread (map value_of items) (values_of states) ∙ ap length are ∙ sym (length-map objects (λ slot. option_and_then (left gone) slot)))
         (λ q. of_id_map value_of states' q ∙ ap (option_map value_of) (taken_at mid states' o.id taken q) ∙ map_choice value_of (q == o.id) None (of_id mid q)
-        ∙ ap (λ slot. if q == o.id then None else slot) (sym (of_id_map value_of mid q) ∙ ap (λ objects. of_id objects q) put_in ∙ ap₂ (λ new objects. of_id (spread new objects) q) made are ∙ spread_released w h objects groups ties whole sound o there q)
+        ∙ ap (λ slot. if q == o.id then None else slot) (sym (of_id_map value_of mid q) ∙ ap (λ objects. of_id objects q) put_in ∙ ap₂ (λ new objects. of_id (spread new objects) q) made are ∙ spread_released whole sound o there q)
         ∙ one_left q ∙ sym (of_id_each (left gone) objects q))
 
     pub one_ties : (ties' : Ties) → Drops ties o.id ties' → (q : ℕ) → get ties' q ≡ option_map tie_of (left_at q)
@@ -363,7 +363,7 @@ module _ (w h : ℕ) (objects : List (Option Object)) (groups : List (List (ℕ 
 
 -- ---- the same, where the object was found by an id
 
-module _ (w h : ℕ) (states : List (Option (Held Object))) (groups : List (List (ℕ × ℤ))) (ties : Ties) (whole : IsWhole w h (values_of states) groups ties)
+module _ {w h : ℕ} (states : List (Option (Held Object))) {groups : List (List (ℕ × ℤ))} {ties : Ties} (whole : IsWhole (record { w = w; h = h; objects = values_of states; groups = groups }) ties)
     (id : ℕ) (parent : Option ℕ) (o : Object) (there : of_id (values_of states) id ≡ Some o) (parent_is : o.parent ≡ parent) where
   own : o.id ≡ id
   own = whole.own id o there
@@ -372,7 +372,7 @@ module _ (w h : ℕ) (states : List (Option (Held Object))) (groups : List (List
   at = ap (of_id (values_of states)) own ∙ there
 
   pub gone_known : place parent < length groups
-  gone_known = subst (λ parent. place parent < length groups) parent_is (has_group w h (values_of states) groups ties whole id o there)
+  gone_known = subst (λ parent. place parent < length groups) parent_is (has_group whole id o there)
 
   moved_out : (groups' : List (List (ℕ × ℤ))) → groups' ≡ with_group groups parent (without (group groups parent) id) → groups' ≡ gone_from o.parent o groups
   moved_out groups' e = e ∙ ap₂ (λ parent id. with_group groups parent (without (group groups parent) id)) (sym parent_is) (sym own)
@@ -390,26 +390,26 @@ module _ (w h : ℕ) (states : List (Option (Held Object))) (groups : List (List
       ids_gone ids e = e ∙ all_is o own smart
 
       pub ids_members : (ids : List ℕ) → ids ≡ all → (q p : ℕ) → parent_at (get ties) q ≡ Some p → has ids p ≡ true → has ids q ≡ true
-      ids_members ids e = subst (λ ids. (q p : ℕ) → parent_at (get ties) q ≡ Some p → has ids p ≡ true → has ids q ≡ true) (sym (ids_gone ids e)) (members_go w h (values_of states) groups ties whole sound o at)
+      ids_members ids e = subst (λ ids. (q p : ℕ) → parent_at (get ties) q ≡ Some p → has ids p ≡ true → has ids q ≡ true) (sym (ids_gone ids e)) (members_go whole sound o at)
 
       pub ids_clipped : (ids : List ℕ) → ids ≡ all → (q c : ℕ) → clipper_at (get ties) q ≡ Some c → has ids c ≡ true → has ids q ≡ true
-      ids_clipped ids e = subst (λ ids. (q c : ℕ) → clipper_at (get ties) q ≡ Some c → has ids c ≡ true → has ids q ≡ true) (sym (ids_gone ids e)) (clipped_go w h (values_of states) groups ties whole sound o at smart)
+      ids_clipped ids e = subst (λ ids. (q c : ℕ) → clipper_at (get ties) q ≡ Some c → has ids c ≡ true → has ids q ≡ true) (sym (ids_gone ids e)) (clipped_go whole sound o at smart)
 
       pub ids_serial : (ids : List ℕ) → ids ≡ all → has ids 0 ≡ false
-      ids_serial ids e = ap (λ ids. has ids 0) (ids_gone ids e) ∙ none_zero w h (values_of states) groups ties whole sound o at
+      ids_serial ids e = ap (λ ids. has ids 0) (ids_gone ids e) ∙ none_zero whole sound o at
 
       module _ (mid groups' : List (List (ℕ × ℤ))) (out : mid ≡ with_group groups parent (without (group groups parent) id)) (ids : List ℕ) (e : ids ≡ all) (emptied_is : groups' ≡ emptied ids mid)
           (states' : List (Option (Held Object))) (ids' : List ℕ) (f : ids' ≡ all) (gone_at : (q : ℕ) → of_id states' q ≡ (if has ids' q then None else of_id states q)) (size : length states' ≡ length states) where
         objects_gone : values_of states' ≡ map (λ slot. option_and_then (left (inside before o)) slot) (values_of states)
-        objects_gone = group_objects w h (values_of states) groups ties whole sound o at smart states states' ids' refl (ids_gone ids' f) gone_at size
+        objects_gone = group_objects whole sound o at smart states states' ids' refl (ids_gone ids' f) gone_at size
 
         groups_gone : groups' ≡ emptied (inside before o) (gone_from o.parent o groups)
         groups_gone = emptied_is ∙ ap₂ emptied (ids_gone ids e) (moved_out mid out)
 
-        pub group_whole : stack.IsDistinct (group groups parent) → (ties' : Ties) (ids : List ℕ) → ids ≡ all → ((q : ℕ) → get ties' q ≡ (if has ids q then None else get ties q)) → IsWhole w h (values_of states') groups' ties'
+        pub group_whole : stack.IsDistinct (group groups parent) → (ties' : Ties) (ids : List ℕ) → ids ≡ all → ((q : ℕ) → get ties' q ≡ (if has ids q then None else get ties q)) → IsWhole (record { w = w; h = h; objects = values_of states'; groups = groups' }) ties'
         group_whole distinct ties' ids g dropped =
-            deleted_whole w h (values_of states) groups ties whole sound o at (subst (λ parent. stack.IsDistinct (group groups parent)) (sym parent_is) distinct) (values_of states') groups' ties' objects_gone groups_gone
-            (group_ties w h (values_of states) groups ties whole sound o at smart ties' ids (ids_gone ids g) dropped)
+            deleted_whole whole sound o at (subst (λ parent. stack.IsDistinct (group groups parent)) (sym parent_is) distinct) (values_of states') groups' ties' objects_gone groups_gone
+            (group_ties whole sound o at smart ties' ids (ids_gone ids g) dropped)
 
         pub group_board : (p : Object) → of_id (values_of states) id ≡ Some p → record { w = w; h = h; objects = values_of states'; groups = groups' } ≡ deleted before p
         group_board p found = ap₂ (λ objects groups. record { w = w; h = h; objects = objects; groups = groups }) objects_gone groups_gone ∙ ap (deleted before) (same_object p found)
@@ -417,7 +417,7 @@ module _ (w h : ℕ) (states : List (Option (Held Object))) (groups : List (List
     -- another object
     module _ (plain : is_smart o ≡ false) where
       pub one_memberless : (q : ℕ) → parent_at (get ties) q ≢ Some id
-      one_memberless q e = memberless w h (values_of states) groups ties whole sound o at plain q (e ∙ ap Some (sym own))
+      one_memberless q e = memberless whole sound o at plain q (e ∙ ap Some (sym own))
 
       module _ (items : List (Held Object)) (made : (p : Object) → of_id (values_of states) id ≡ Some p → map value_of items ≡ map (apply (change.Clip None)) (clipped_by before p))
           (now : List (Option (Held Object))) (still : now ≡ states) where
@@ -425,16 +425,16 @@ module _ (w h : ℕ) (states : List (Option (Held Object))) (groups : List (List
             (spread_in states' : List (Option (Held Object))) (put_in : values_of spread_in ≡ spread (map value_of items) (values_of now)) (taken : states' ≡ (if is_some (of_id spread_in id) then put spread_in id None else spread_in)) where
           one_objects_gone : values_of states' ≡ map (λ slot. option_and_then (left (inside before o)) slot) (values_of states)
           one_objects_gone =
-              one_objects w h (values_of states) groups ties whole sound o at plain states states' spread_in items refl (made o there) (put_in ∙ ap (λ states. spread (map value_of items) (values_of states)) still)
+              one_objects whole sound o at plain states states' spread_in items refl (made o there) (put_in ∙ ap (λ states. spread (map value_of items) (values_of states)) still)
               (subst (λ id. states' ≡ (if is_some (of_id spread_in id) then put spread_in id None else spread_in)) (sym own) taken)
 
           one_groups_gone : groups' ≡ emptied (inside before o) (gone_from o.parent o groups)
-          one_groups_gone = cleared ∙ ap₂ (λ groups id. with_group groups (Some id) []) (moved_out mid out) (sym own) ∙ ap (λ ids. emptied ids (gone_from o.parent o groups)) (sym (alone_gone w h (values_of states) groups ties whole sound o at plain))
+          one_groups_gone = cleared ∙ ap₂ (λ groups id. with_group groups (Some id) []) (moved_out mid out) (sym own) ∙ ap (λ ids. emptied ids (gone_from o.parent o groups)) (sym (alone_gone whole sound o at plain))
 
-          pub one_whole : stack.IsDistinct (group groups parent) → (ties' : Ties) → Drops ties id ties' → IsWhole w h (values_of states') groups' ties'
+          pub one_whole : stack.IsDistinct (group groups parent) → (ties' : Ties) → Drops ties id ties' → IsWhole (record { w = w; h = h; objects = values_of states'; groups = groups' }) ties'
           one_whole distinct ties' drops =
-              deleted_whole w h (values_of states) groups ties whole sound o at (subst (λ parent. stack.IsDistinct (group groups parent)) (sym parent_is) distinct) (values_of states') groups' ties' one_objects_gone one_groups_gone
-              (one_ties w h (values_of states) groups ties whole sound o at plain ties' (subst (λ id. Drops ties id ties') (sym own) drops))
+              deleted_whole whole sound o at (subst (λ parent. stack.IsDistinct (group groups parent)) (sym parent_is) distinct) (values_of states') groups' ties' one_objects_gone one_groups_gone
+              (one_ties whole sound o at plain ties' (subst (λ id. Drops ties id ties') (sym own) drops))
 
           pub one_board : (p : Object) → of_id (values_of states) id ≡ Some p → record { w = w; h = h; objects = values_of states'; groups = groups' } ≡ deleted before p
           one_board p found = ap₂ (λ objects groups. record { w = w; h = h; objects = objects; groups = groups }) one_objects_gone one_groups_gone ∙ ap (deleted before) (same_object p found)

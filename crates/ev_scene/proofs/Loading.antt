@@ -20,12 +20,12 @@ has_kind : (slot : Option Object) (kind : Kind) → option_map (λ o. kind_of o.
 has_kind None kind e = absurd (none-some kind e)
 has_kind (Some o) kind e = (o, refl)
 
-module _ (w h : ℕ) (states : List (Option (Held Object))) (groups : List (List (ℕ × ℤ))) (ties : Ties) (whole : IsWhole w h (values_of states) groups ties)
+module _ {w h : ℕ} (states : List (Option (Held Object))) {groups : List (List (ℕ × ℤ))} {ties : Ties} (whole : IsWhole (record { w = w; h = h; objects = values_of states; groups = groups }) ties)
     (id : ℕ) (kind : Kind) (of_kind : option_map (λ o. kind_of o.content) (of_id (values_of states) id) ≡ Some kind) where
   pub stands_there : is_some (of_id states id) ≡ true
   stands_there = let o : (o : Object) × (of_id (values_of states) id ≡ Some o) = has_kind (of_id (values_of states) id) kind of_kind in has_state states id o.0 o.1
 
-  pub loaded : (c : Change) (objects' : List (Option Object)) → IsLook c → objects' ≡ put (values_of states) id (option_map (apply c) (of_id (values_of states) id)) → IsWhole w h objects' groups ties
+  pub loaded : (c : Change) (objects' : List (Option Object)) → IsLook c → objects' ≡ put (values_of states) id (option_map (apply c) (of_id (values_of states) id)) → IsWhole (record { w = w; h = h; objects = objects'; groups = groups }) ties
   loaded c objects' look e =
       let o : (o : Object) × (of_id (values_of states) id ≡ Some o) = has_kind (of_id (values_of states) id) kind of_kind in
-      looked w h (values_of states) groups ties whole id o.0 c objects' o.1 look e
+      looked whole id o.0 c objects' o.1 look e

@@ -17,7 +17,6 @@ use Rattle.ev_scene.specs.Change.{apply}
 use Rattle.ev_scene.specs.Edits.{Answers, Refuses, unless, known, with_named, move_verdict, move_writes, is_at, moved, may_shift, shifted_all, objects_in, changed}
 use Rattle.ev_scene.specs.declared.change.Change.{Change}
 use Rattle.ev_scene.specs.declared.change.Change.TheVariants as change
-use Rattle.ev_links.specs.Ties.{has}
 use Rattle.ev_scene.proofs.Shifting.{both}
 use Rattle.ev_scene.proofs.Verdicts.{wanting, changed_is}
 

@@ -70,7 +70,7 @@ told_below dx dy fx fy objects ties id n may x low within = told_may dx dy fx fy
 pub all_below : (states : List (Option (Held Object))) (next n : ℕ) → next ≡ length states + 1 → next ≤ n → length (values_of states) + 1 ≤ n
 all_below states next n e past = let same : length (values_of states) ≡ length states = length-map states _ in omega (arith, e, past, same)
 
-module _ (w h : ℕ) (objects : List (Option Object)) (groups : List (List (ℕ × ℤ))) (ties : Ties) (whole : IsWhole w h objects groups ties) where
+module _ {w h : ℕ} {objects : List (Option Object)} {groups : List (List (ℕ × ℤ))} {ties : Ties} (whole : IsWhole (record { w = w; h = h; objects = objects; groups = groups }) ties) where
   abbrev board : Board
   board = record { w = w; h = h; objects = objects; groups = groups }
 
@@ -81,7 +81,7 @@ module _ (w h : ℕ) (objects : List (Option Object)) (groups : List (List (ℕ 
     module _ (sound : IsSound (get ties)) where
       one_may_not : (x : ℕ) → is_inside ties x id ≡ true → list_all (may_shift dx dy) (option_to_list (of_id objects x)) ≡ false → list_all (may_shift dx dy) (objects_in board o) ≡ false
       one_may_not x within fails = fails_in (may_shift dx dy) (of_id objects) (inside board o) x
-          (inside_is w h objects groups ties whole sound o stands_there x (is_there (of_id objects x) fails) ∙ ap (is_inside ties x) (whole.own id o there) ∙ within) fails
+          (inside_is whole sound o stands_there x (is_there (of_id objects x) fails) ∙ ap (is_inside ties x) (whole.own id o there) ∙ within) fails
         where
           is_there : (slot : Option Object) → list_all (may_shift dx dy) (option_to_list slot) ≡ false → is_some slot ≡ true
           is_there None e = absurd (true≢false e)
@@ -99,7 +99,7 @@ module _ (w h : ℕ) (objects : List (Option Object)) (groups : List (List (ℕ 
           go (Some p) f =
               let high : x - 1 < length objects = id_high objects x p f in
               let low : x < n = omega (arith, high, e) in
-              let within : is_inside ties x id ≡ true = ap (is_inside ties x) (sym (whole.own id o there)) ∙ sym (inside_is w h objects groups ties whole sound o stands_there x (ap is_some f)) ∙ has-Has (inside board o) x has_it in
+              let within : is_inside ties x id ≡ true = ap (is_inside ties x) (sym (whole.own id o there)) ∙ sym (inside_is whole sound o stands_there x (ap is_some f)) ∙ has-Has (inside board o) x has_it in
               ap (λ slot. list_all (may_shift dx dy) (option_to_list slot)) (sym f) ∙ may x low within
 
       pub refused_memory : (n : ℕ) → length objects + 1 ≤ n → MayBelow dx dy objects ties id n → Refuses (unless (list_all (may_shift dx dy) (objects_in board o)) refusal.Range) refusal.NoMemory
@@ -120,7 +120,7 @@ module _ (w h : ℕ) (objects : List (Option Object)) (groups : List (List (ℕ 
         → (o : Object) → of_id objects id ≡ Some o → (list_all (may_shift dx dy) (objects_in board o) ≡ true) × (record board { objects = objects' } ≡ shifted_all dx dy board o)
     group_moves objects' e f o there = (
       same_test o there ∙ e,
-      ap (λ objects. record board { objects = objects }) (f ∙ shifted_values w h objects groups ties whole dx dy ids
+      ap (λ objects. record board { objects = objects }) (f ∙ shifted_values whole dx dy ids
           ∙ ap (λ ids. map (λ slot. option_map (λ p. if has ids p.id then shifted_by dx dy p else p) slot) objects) (ids_are o there)),
     )
 

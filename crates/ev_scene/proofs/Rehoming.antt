@@ -33,7 +33,7 @@ taken_back (one ∷ rest) id layer apart =
       | false ↦ rw (neq-eqb one.0 id apart.0) (ap (λ xs. one ∷ xs) later)
     ]
 
-module _ (w h : ℕ) (objects : List (Option Object)) (groups : List (List (ℕ × ℤ))) (ties : Ties) (whole : IsWhole w h objects groups ties) where
+module _ {w h : ℕ} {objects : List (Option Object)} {groups : List (List (ℕ × ℤ))} {ties : Ties} (whole : IsWhole (record { w = w; h = h; objects = objects; groups = groups }) ties) where
   -- each object has a place for members, and so has the canvas
   pub members_known : (id : ℕ) (o : Object) → of_id objects id ≡ Some o → id < length groups
   members_known id o there = let low = id_low objects id o there in let high = id_high objects id o there in let e = whole.grouped in omega (arith, low, high, e)
@@ -46,7 +46,7 @@ module _ (w h : ℕ) (objects : List (Option Object)) (groups : List (List (ℕ 
       go None f e = absurd (true≢false (sym e))
       go (Some q) f e = λ zero_is. true≢false (sym (parent_there (get ties) sound id q f) ∙ ap (λ q. is_some (get ties q)) zero_is ∙ ap is_some (whole.tied 0))
 
-module _ (w h : ℕ) (objects : List (Option Object)) (groups : List (List (ℕ × ℤ))) (ties : Ties) (whole : IsWhole w h objects groups ties)
+module _ {w h : ℕ} {objects : List (Option Object)} {groups : List (List (ℕ × ℤ))} {ties : Ties} (whole : IsWhole (record { w = w; h = h; objects = objects; groups = groups }) ties)
     (id : ℕ) (o : Object) (to : Option ℕ) (there : of_id objects id ≡ Some o) (known : place to < length groups) (other : place o.parent ≢ place to)
     (groups' : List (List (ℕ × ℤ))) (pushed : groups' ≡ with_group groups to (put_top (group groups to) id o.layer)) where
   apart : IsApart id (group groups to)
@@ -67,7 +67,7 @@ module _ (w h : ℕ) (objects : List (Option Object)) (groups : List (List (ℕ 
 
   -- its old group has a place
   pub from_known : place o.parent < length groups'
-  from_known = subst (λ n. place o.parent < n) (sym as_many) (has_group w h objects groups ties whole id o there)
+  from_known = subst (λ n. place o.parent < n) (sym as_many) (has_group whole id o there)
 
   -- taken out again at once, all is as before
   pub undone : (groups'' : List (List (ℕ × ℤ))) → groups'' ≡ with_group groups' to (without (group groups' to) id) → groups'' ≡ groups
@@ -77,7 +77,7 @@ module _ (w h : ℕ) (objects : List (Option Object)) (groups : List (List (ℕ 
 
   -- taken out where it stood, it has gone to the other parent
   pub gone : (objects' : List (Option Object)) (groups'' : List (List (ℕ × ℤ))) → IsDistinct (group groups' o.parent) → objects' ≡ put objects id (option_map (apply (change.Enter to)) (of_id objects id))
-      → groups'' ≡ with_group groups' o.parent (without (group groups' o.parent) id) → IsWhole w h objects' groups'' (with_parent ties id to)
+      → groups'' ≡ with_group groups' o.parent (without (group groups' o.parent) id) → IsWhole (record { w = w; h = h; objects = objects'; groups = groups'' }) (with_parent ties id to)
   gone objects' groups'' distinct e f =
-      entered w h objects groups ties whole id o to objects' groups'' (with_parent ties id to) there known other (subst IsDistinct same_from distinct) apart e
+      entered whole id o to objects' groups'' (with_parent ties id to) there known other (subst IsDistinct same_from distinct) apart e
       (f ∙ ap (λ members. with_group groups' o.parent (without members id)) same_from ∙ ap (λ groups'. with_group groups' o.parent (without (group groups o.parent) id)) pushed) refl

@@ -139,7 +139,7 @@ has_chosen slots test q p there (u ∷ objects) stand = go (test u) refl (has_ch
 abbrev pub unclipped : ℕ → Object → Object
 unclipped id p = if is_clipped_by id p then apply (change.Clip None) p else p
 
-module _ (w h : ℕ) (objects : List (Option Object)) (groups : List (List (ℕ × ℤ))) (ties : Ties) (whole : IsWhole w h objects groups ties) where
+module _ {w h : ℕ} {objects : List (Option Object)} {groups : List (List (ℕ × ℤ))} {ties : Ties} (whole : IsWhole (record { w = w; h = h; objects = objects; groups = groups }) ties) where
   clipper_is : (id : ℕ) (p : Object) → of_id objects id ≡ Some p → clipper_at (get ties) id ≡ p.clipper
   clipper_is id p there = ap (option_and_then (λ tie. tie.clipper)) (whole.tied id ∙ ap (option_map tie_of) there)
 
@@ -173,7 +173,7 @@ module _ (w h : ℕ) (objects : List (Option Object)) (groups : List (List (ℕ 
     among : (q : ℕ) (p : Object) → of_id objects q ≡ Some p → (b : Bool) → is_clipped_by o.id p ≡ b → (has (siblings groups o.parent) q && b) ≡ b
     among q p at true f =
         let same : o.parent ≡ p.parent = sym (parent_is o.id o there) ∙ sound.siblings q o.id (clipper_is q p at ∙ clipper_of o.id p f) ∙ parent_is q p at in
-        ap (λ b. b && true) (has_sibling (group groups o.parent) q p.layer (ap (λ parent. layer_in (group groups parent) q) same ∙ stands_in w h objects groups ties whole q p at))
+        ap (λ b. b && true) (has_sibling (group groups o.parent) q p.layer (ap (λ parent. layer_in (group groups parent) q) same ∙ stands_in whole q p at))
     among q p at false f = and_false (has (siblings groups o.parent) q)
       where
         and_false : (b : Bool) → (b && false) ≡ false
@@ -193,7 +193,7 @@ module _ (w h : ℕ) (objects : List (Option Object)) (groups : List (List (ℕ 
             ∙ ap (λ b. b && is_clipped_by o.id p) (has_listed objects whole.own (siblings groups o.parent) q p e) ∙ among q p e (is_clipped_by o.id p) refl)
 
 -- each of the new states is of an object that is there
-module _ (w h : ℕ) (states : List (Option (Held Object))) (groups : List (List (ℕ × ℤ))) (ties : Ties) (whole : IsWhole w h (values_of states) groups ties) (o : Object) where
+module _ {w h : ℕ} (states : List (Option (Held Object))) {groups : List (List (ℕ × ℤ))} {ties : Ties} (whole : IsWhole (record { w = w; h = h; objects = values_of states; groups = groups }) ties) (o : Object) where
   named_still : (p : Object) → of_id (values_of states) p.id ≡ Some p → name_at states p.id ≡ Some p.name
   named_still p at = go (of_id states p.id) (sym (of_id_map value_of states p.id) ∙ at)
     where

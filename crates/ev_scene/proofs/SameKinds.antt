@@ -1,8 +1,7 @@
 -- An edit that deletes nothing leaves each object there, and of its kind.
-use Rattle.std.proofs.Common.{◌≡◌, ℕ, suc, ◌+◌, ◌-ℤ◌, ℤ, ◌==◌, arith, List, [], ◌∷◌, Bool, true, false, cond, find, if◌then◌else◌, Option, Some, None, Result, Ok, Err, length, map, refl, ap, subst, sym, ◌∙◌}
-use Rattle.std.specs.List.{cons_option}
+use Rattle.std.proofs.Common.{◌≡◌, ℕ, suc, ◌+◌, ◌-ℤ◌, ℤ, ◌==◌, arith, List, [], ◌∷◌, Bool, true, false, cond, find, if◌then◌else◌, Option, Some, None, Result, Ok, Err, length, refl, ap, subst, sym, ◌∙◌}
 use Rattle.std.specs.Option.{option_map, option_map_or, option_eq}
-use Rattle.std.proofs.lemmas.Option.{none-some, same_Some}
+use Rattle.std.proofs.lemmas.Option.{none-some}
 use Rattle.std.proofs.Math.Bool.{true≢false}
 use Rattle.ev_model.specs.Content.{kind_of}
 use Rattle.ev_model.specs.Up.{is_smart}
@@ -13,7 +12,7 @@ use Rattle.ev_model.specs.declared.content.Kind.{Kind}
 use Rattle.ev_model.specs.declared.object.Object.{Object}
 use Rattle.ev_model.specs.declared.refusal.Refusal.{Refusal}
 use Rattle.ev_links.specs.Ties.{has}
-use Rattle.ev_scene.specs.Slots.{of_id, put, live}
+use Rattle.ev_scene.specs.Slots.{of_id, live}
 use Rattle.ev_scene.specs.Board.{Board, Kept, board, named, inside, is_named}
 use Rattle.ev_scene.specs.Cast.{IsCast, kept_of, board_of}
 use Rattle.ev_scene.specs.Change.{apply, fresh, color_of, fill_of, border_of}

@@ -144,10 +144,10 @@ not_shifted board o = ap (λ objects. record board { objects = objects }) (all b
 pub place_stands : (x y : ℤ) (o : Object) → IsSameStand o (apply (change.Place x y) o)
 place_stands x y o = record { id = refl; layer = refl; parent = refl; tie = refl; limits = λ l. record { layer_low = l.layer_low; layer_high = l.layer_high; content = l.content } }
 
-module _ (w h : ℕ) (objects : List (Option Object)) (groups : List (List (ℕ × ℤ))) (ties : Ties) (whole : IsWhole w h objects groups ties) where
+module _ {w h : ℕ} {objects : List (Option Object)} {groups : List (List (ℕ × ℤ))} {ties : Ties} (whole : IsWhole (record { w = w; h = h; objects = objects; groups = groups }) ties) where
   -- objects with other looks
   pub looked_all : (objects' : List (Option Object)) (f : ℕ → Object → Object) → length objects' ≡ length objects → ((id : ℕ) → of_id objects' id ≡ option_map (f id) (of_id objects id)) → ((id : ℕ) (o : Object) → IsSameStand o (f id o))
-      → IsWhole w h objects' groups ties
+      → IsWhole (record { w = w; h = h; objects = objects'; groups = groups }) ties
   looked_all objects' f size at stand = record {
     w_low = whole.w_low;
     w_high = whole.w_high;
@@ -191,8 +191,8 @@ module _ (w h : ℕ) (objects : List (Option Object)) (groups : List (List (ℕ 
       go q None e = refl
       go q (Some o) e = ap (λ q. Some (if has ids q then shifted_by dx dy o else o)) (sym (whole.own q o e))
 
-    pub shifted_whole : (objects' : List (Option Object)) → objects' ≡ spread (map (shifted_by dx dy) (filter_map (of_id objects) ids)) objects → IsWhole w h objects' groups ties
-    shifted_whole objects' e = subst (λ objects. IsWhole w h objects groups ties) (sym e)
+    pub shifted_whole : (objects' : List (Option Object)) → objects' ≡ spread (map (shifted_by dx dy) (filter_map (of_id objects) ids)) objects → IsWhole (record { w = w; h = h; objects = objects'; groups = groups }) ties
+    shifted_whole objects' e = subst (λ objects. IsWhole (record { w = w; h = h; objects = objects; groups = groups }) ties) (sym e)
         (looked_all (spread (map (shifted_by dx dy) (filter_map (of_id objects) ids)) objects) (λ q o. if has ids q then shifted_by dx dy o else o) shifted_size shifted_at (λ q o. stand (has ids q) o)) where
           stand : (b : Bool) (o : Object) → IsSameStand o (if b then shifted_by dx dy o else o)
           stand true o = place_stands _ _ o

@@ -137,9 +137,9 @@ get_set (one ∷ xs) (suc k) (suc j) x y low = let e : (suc j == suc k) ≡ (j =
 get_put_tie : (ties : Ties) (id : ℕ) (tie : Tie) (q : ℕ) → get (put_tie ties id (Some tie)) q ≡ (if q == id then Some tie else get ties q)
 get_put_tie ties id tie q = get-insert nat_cmp_total ties id tie q ∙ ap (λ b. if b then Some tie else get ties q) (same_test q id)
 
-module _ (w h : ℕ) (objects : List (Option Object)) (groups : List (List (ℕ × ℤ))) (ties : Ties) (whole : IsWhole w h objects groups ties) where
+module _ {w h : ℕ} {objects : List (Option Object)} {groups : List (List (ℕ × ℤ))} {ties : Ties} (whole : IsWhole (record { w = w; h = h; objects = objects; groups = groups }) ties) where
   -- other sides
-  pub resized : (w' h' : ℕ) → 1 ≤ w' → w' ≤ 4096 → 1 ≤ h' → h' ≤ 4096 → IsWhole w' h' objects groups ties
+  pub resized : (w' h' : ℕ) → 1 ≤ w' → w' ≤ 4096 → 1 ≤ h' → h' ≤ 4096 → IsWhole (record { w = w'; h = h'; objects = objects; groups = groups }) ties
   resized w' h' a b c d = record { w_low = a; w_high = b; h_low = c; h_high = d; own = whole.own; limits = whole.limits; stands = whole.stands; grouped = whole.grouped; tied = whole.tied }
 
   -- each object that is there stands in the group of its parent
@@ -149,7 +149,7 @@ module _ (w h : ℕ) (objects : List (Option Object)) (groups : List (List (ℕ 
       whole.stands (place o.parent) id ∙ ap (option_and_then (layer_at (place o.parent))) there ∙ ap (λ b. if b then Some o.layer else None) same
 
   -- groups with the same layers
-  pub regrouped : (groups' : List (List (ℕ × ℤ))) → length groups' ≡ length groups → ((at q : ℕ) → layer_in (get_or groups' at []) q ≡ layer_in (get_or groups at []) q) → IsWhole w h objects groups' ties
+  pub regrouped : (groups' : List (List (ℕ × ℤ))) → length groups' ≡ length groups → ((at q : ℕ) → layer_in (get_or groups' at []) q ≡ layer_in (get_or groups at []) q) → IsWhole (record { w = w; h = h; objects = objects; groups = groups' }) ties
   regrouped groups' size same = record {
     w_low = whole.w_low;
     w_high = whole.w_high;
@@ -163,7 +163,7 @@ module _ (w h : ℕ) (objects : List (Option Object)) (groups : List (List (ℕ 
   }
 
   -- the group at one place with the same layers
-  pub restacked : (parent : Option ℕ) (group' : List (ℕ × ℤ)) → place parent < length groups → ((q : ℕ) → layer_in group' q ≡ layer_in (group groups parent) q) → IsWhole w h objects (with_group groups parent group') ties
+  pub restacked : (parent : Option ℕ) (group' : List (ℕ × ℤ)) → place parent < length groups → ((q : ℕ) → layer_in group' q ≡ layer_in (group groups parent) q) → IsWhole (record { w = w; h = h; objects = objects; groups = with_group groups parent group' }) ties
   restacked parent group' known same = regrouped (with_group groups parent group') (length-set groups (place parent) group') (λ at q. go at q) where
     go : (at q : ℕ) → layer_in (get_or (with_group groups parent group') at []) q ≡ layer_in (get_or groups at []) q
     go at q = ap (λ g. layer_in g q) (get_set groups (place parent) at group' [] known) ∙ elim (eqb_tells at (place parent)) [
@@ -192,7 +192,7 @@ module _ (w h : ℕ) (objects : List (Option Object)) (groups : List (List (ℕ 
     pub replaced : (groups' : List (List (ℕ × ℤ))) (ties' : Ties) → length groups' ≡ length groups
         → ((at q : ℕ) → layer_in (get_or groups' at []) q ≡ (if q == id then layer_at at o' else layer_in (get_or groups at []) q))
         → ((q : ℕ) → get ties' q ≡ (if q == id then Some (tie_of o') else get ties q))
-        → IsWhole w h (put objects id (Some o')) groups' ties'
+        → IsWhole (record { w = w; h = h; objects = put objects id (Some o'); groups = groups' }) ties'
     replaced groups' ties' size layers tied' = record {
       w_low = whole.w_low;
       w_high = whole.w_high;
@@ -220,12 +220,12 @@ module _ (w h : ℕ) (objects : List (Option Object)) (groups : List (List (ℕ 
     ]
 
   -- an object with another look
-  pub looked : (id : ℕ) (o : Object) (c : Change) (objects' : List (Option Object)) → of_id objects id ≡ Some o → IsLook c → objects' ≡ put objects id (option_map (apply c) (of_id objects id)) → IsWhole w h objects' groups ties
+  pub looked : (id : ℕ) (o : Object) (c : Change) (objects' : List (Option Object)) → of_id objects id ≡ Some o → IsLook c → objects' ≡ put objects id (option_map (apply c) (of_id objects id)) → IsWhole (record { w = w; h = h; objects = objects'; groups = groups }) ties
   looked id o c objects' there look e =
       let stand : IsSameStand o (apply c o) = look_stands c o look in
       let own' : (apply c o).id ≡ id = stand.id ∙ whole.own id o there in
       let limits' : IsObject (apply c o) = stand.limits (whole.limits id o there) in
-      let P : List (Option Object) → Type 0 = λ objects. IsWhole w h objects groups ties in
+      let P : List (Option Object) → Type 0 = λ objects. IsWhole (record { w = w; h = h; objects = objects; groups = groups }) ties in
       subst P (sym (e ∙ ap (λ slot. put objects id (option_map (apply c) slot)) there))
       (replaced id o (apply c o) there own' limits' groups ties refl (same_layers id o (apply c o) there own' limits' stand.layer stand.parent) (same_ties id o (apply c o) there own' limits' stand.tie))
 
@@ -239,17 +239,17 @@ module _ (w h : ℕ) (objects : List (Option Object)) (groups : List (List (ℕ 
 
   -- an object on top or at the bottom of its layer
   pub raised_to : (id : ℕ) (o : Object) (up : Bool) (groups' : List (List (ℕ × ℤ))) → of_id objects id ≡ Some o → IsDistinct (group groups o.parent)
-      → groups' ≡ with_group groups o.parent ((if up then raised else lowered) (group groups o.parent) id) → IsWhole w h objects groups' ties
-  raised_to id o up groups' there distinct e = subst (λ groups. IsWhole w h objects groups ties) (sym e) (restacked o.parent ((if up then raised else lowered) (group groups o.parent) id) (has_group id o there) (λ q. go up q)) where
+      → groups' ≡ with_group groups o.parent ((if up then raised else lowered) (group groups o.parent) id) → IsWhole (record { w = w; h = h; objects = objects; groups = groups' }) ties
+  raised_to id o up groups' there distinct e = subst (λ groups. IsWhole (record { w = w; h = h; objects = objects; groups = groups }) ties) (sym e) (restacked o.parent ((if up then raised else lowered) (group groups o.parent) id) (has_group id o there) (λ q. go up q)) where
     go : (up : Bool) (q : ℕ) → layer_in ((if up then raised else lowered) (group groups o.parent) id) q ≡ layer_in (group groups o.parent) q
     go true q = layer_in-raised (group groups o.parent) id o.layer (stands_in id o there) distinct q
     go false q = layer_in-lowered (group groups o.parent) id o.layer (stands_in id o there) distinct q
 
   -- an object beside another one
   pub placed_to : (id : ℕ) (o : Object) (other : ℕ) (above : Bool) (groups' : List (List (ℕ × ℤ))) → of_id objects id ≡ Some o → IsDistinct (group groups o.parent) → None ≡ place_fault (group groups o.parent) id other
-      → groups' ≡ with_group groups o.parent ((if above then placed_above else placed_below) (group groups o.parent) id other) → IsWhole w h objects groups' ties
+      → groups' ≡ with_group groups o.parent ((if above then placed_above else placed_below) (group groups o.parent) id other) → IsWhole (record { w = w; h = h; objects = objects; groups = groups' }) ties
   placed_to id o other above groups' there distinct fault e =
-      subst (λ groups. IsWhole w h objects groups ties) (sym e) (restacked o.parent ((if above then placed_above else placed_below) (group groups o.parent) id other) (has_group id o there)
+      subst (λ groups. IsWhole (record { w = w; h = h; objects = objects; groups = groups }) ties) (sym e) (restacked o.parent ((if above then placed_above else placed_below) (group groups o.parent) id other) (has_group id o there)
       (λ q. still_beside {T = ℕ} (group groups o.parent) ((if above then placed_above else placed_below) (group groups o.parent) id other) ((if above then placed_above else placed_below) (group groups o.parent) id other) id other (Ok 0) fault refl tt
       (λ layer beside own near apart q. go above layer beside own near apart q) q))
     where
@@ -260,12 +260,12 @@ module _ (w h : ℕ) (objects : List (Option Object)) (groups : List (List (ℕ 
 
   -- an object in another layer of its parent
   pub lifted : (id : ℕ) (o : Object) (layer : ℤ) (objects' : List (Option Object)) (groups' : List (List (ℕ × ℤ))) → of_id objects id ≡ Some o → is_layer layer ≡ true → IsDistinct (group groups o.parent)
-      → objects' ≡ put objects id (option_map (apply (change.Lift layer)) (of_id objects id)) → groups' ≡ with_group groups o.parent (relayered (group groups o.parent) id layer) → IsWhole w h objects' groups' ties
+      → objects' ≡ put objects id (option_map (apply (change.Lift layer)) (of_id objects id)) → groups' ≡ with_group groups o.parent (relayered (group groups o.parent) id layer) → IsWhole (record { w = w; h = h; objects = objects'; groups = groups' }) ties
   lifted id o layer objects' groups' there fits distinct e f =
       let old : IsObject o = whole.limits id o there in
       let new : Object = apply (change.Lift layer) o in
       let limits' : IsObject new = record { layer_low = layer_low layer fits; layer_high = layer_high layer fits; content = old.content } in
-      let P : List (Option Object) → List (List (ℕ × ℤ)) → Type 0 = λ objects groups. IsWhole w h objects groups ties in
+      let P : List (Option Object) → List (List (ℕ × ℤ)) → Type 0 = λ objects groups. IsWhole (record { w = w; h = h; objects = objects; groups = groups }) ties in
       subst (λ groups. P objects' groups) (sym f) (subst (λ objects. P objects (with_group groups o.parent (relayered (group groups o.parent) id layer))) (sym (e ∙ ap (λ slot. put objects id (option_map (apply (change.Lift layer)) slot)) there))
       (replaced id o new there (whole.own id o there) limits' (with_group groups o.parent (relayered (group groups o.parent) id layer)) ties (length-set groups (place o.parent) (relayered (group groups o.parent) id layer))
       (λ at q. layers at q) (same_ties id o new there (whole.own id o there) limits' refl)))
@@ -287,12 +287,12 @@ module _ (w h : ℕ) (objects : List (Option Object)) (groups : List (List (ℕ 
 
   -- an object with another clipper
   pub clipped : (id : ℕ) (o : Object) (clipper : Option ℕ) (objects' : List (Option Object)) (ties' : Ties) → of_id objects id ≡ Some o
-      → objects' ≡ put objects id (option_map (apply (change.Clip clipper)) (of_id objects id)) → ties' ≡ with_clipper ties id clipper → IsWhole w h objects' groups ties'
+      → objects' ≡ put objects id (option_map (apply (change.Clip clipper)) (of_id objects id)) → ties' ≡ with_clipper ties id clipper → IsWhole (record { w = w; h = h; objects = objects'; groups = groups }) ties'
   clipped id o clipper objects' ties' there e f =
       let old : IsObject o = whole.limits id o there in
       let new : Object = apply (change.Clip clipper) o in
       let limits' : IsObject new = record { layer_low = old.layer_low; layer_high = old.layer_high; content = old.content } in
-      let P : List (Option Object) → Ties → Type 0 = λ objects ties. IsWhole w h objects groups ties in
+      let P : List (Option Object) → Ties → Type 0 = λ objects ties. IsWhole (record { w = w; h = h; objects = objects; groups = groups }) ties in
       subst (λ ties. P objects' ties) (sym f) (subst (λ objects. P objects (with_clipper ties id clipper)) (sym (e ∙ ap (λ slot. put objects id (option_map (apply (change.Clip clipper)) slot)) there))
       (replaced id o new there (whole.own id o there) limits' groups (with_clipper ties id clipper) refl (same_layers id o new there (whole.own id o there) limits' refl refl)
       (λ q. tied q)))
@@ -306,14 +306,14 @@ module _ (w h : ℕ) (objects : List (Option Object)) (groups : List (List (ℕ 
       → IsDistinct (group groups o.parent) → IsApart id (group groups to)
       → objects' ≡ put objects id (option_map (apply (change.Enter to)) (of_id objects id))
       → groups' ≡ with_group (with_group groups to (put_top (group groups to) id o.layer)) o.parent (without (group groups o.parent) id)
-      → ties' ≡ with_parent ties id to → IsWhole w h objects' groups' ties'
+      → ties' ≡ with_parent ties id to → IsWhole (record { w = w; h = h; objects = objects'; groups = groups' }) ties'
   entered id o to objects' groups' ties' there known other distinct apart e f g =
       let old : IsObject o = whole.limits id o there in
       let new : Object = apply (change.Enter to) o in
       let limits' : IsObject new = record { layer_low = old.layer_low; layer_high = old.layer_high; content = old.content } in
       let mid : List (List (ℕ × ℤ)) = with_group groups to (put_top (group groups to) id o.layer) in
       let after : List (List (ℕ × ℤ)) = with_group mid o.parent (without (group groups o.parent) id) in
-      let P : List (Option Object) → List (List (ℕ × ℤ)) → Ties → Type 0 = λ objects groups ties. IsWhole w h objects groups ties in
+      let P : List (Option Object) → List (List (ℕ × ℤ)) → Ties → Type 0 = λ objects groups ties. IsWhole (record { w = w; h = h; objects = objects; groups = groups }) ties in
       subst (λ ties. P objects' groups' ties) (sym g) (subst (λ groups. P objects' groups (with_parent ties id to)) (sym f)
       (subst (λ objects. P objects after (with_parent ties id to)) (sym (e ∙ ap (λ slot. put objects id (option_map (apply (change.Enter to)) slot)) there))
       (replaced id o new there (whole.own id o there) limits' after (with_parent ties id to)
@@ -382,7 +382,7 @@ module _ (w h : ℕ) (objects : List (Option Object)) (groups : List (List (ℕ 
         go false now = parentless id other (ap (get ties) next ∙ next_untied) (sym (ap (option_and_then (λ tie. tie.parent)) now) ∙ f)
 
     -- a tie that was added and dropped again
-    pub undone : (id : ℕ) (kind : Kind) (ties' ties'' : Ties) → id ≡ length objects + 1 → ties' ≡ insert ties id (alone kind) → Drops ties' id ties'' → IsWhole w h objects groups ties''
+    pub undone : (id : ℕ) (kind : Kind) (ties' ties'' : Ties) → id ≡ length objects + 1 → ties' ≡ insert ties id (alone kind) → Drops ties' id ties'' → IsWhole (record { w = w; h = h; objects = objects; groups = groups }) ties''
     undone id kind ties' ties'' next e drops = record {
       w_low = whole.w_low;
       w_high = whole.w_high;
@@ -417,9 +417,9 @@ module _ (w h : ℕ) (objects : List (Option Object)) (groups : List (List (ℕ 
 
   -- a new object on top of those that stand in no other one
   pub made : (id : ℕ) (o : Object) (objects' : List (Option Object)) (groups' : List (List (ℕ × ℤ))) (ties' : Ties) → id ≡ length objects + 1 → o.id ≡ id → o.parent ≡ None → o.layer ≡ pos 0 → IsObject o
-      → objects' ≡ objects ++ Some o ∷ [] → groups' ≡ with_group groups None (put_top (group groups None) id (pos 0)) ++ [] ∷ [] → ties' ≡ insert ties id (tie_of o) → IsWhole w h objects' groups' ties'
+      → objects' ≡ objects ++ Some o ∷ [] → groups' ≡ with_group groups None (put_top (group groups None) id (pos 0)) ++ [] ∷ [] → ties' ≡ insert ties id (tie_of o) → IsWhole (record { w = w; h = h; objects = objects'; groups = groups' }) ties'
   made id o objects' groups' ties' next own free low limits e f g =
-      subst (λ objects. IsWhole w h objects groups' ties') (sym e) (record {
+      subst (λ objects. IsWhole (record { w = w; h = h; objects = objects; groups = groups' }) ties') (sym e) (record {
         w_low = whole.w_low;
         w_high = whole.w_high;
         h_low = whole.h_low;
@@ -478,7 +478,7 @@ module _ (w h : ℕ) (objects : List (Option Object)) (groups : List (List (ℕ 
           nowhere at away = let differ : (0 == at) ≡ false = grind (arith, nat_tests, away) in ap (λ b. if b then Some o.layer else None) (sym differ) ∙ ap (λ p. if place p == at then Some o.layer else None) (sym free)
 
 -- before anything was made
-pub at_start : (states : List (Option (Held Object))) (groups : List (List (ℕ × ℤ))) (ties : Ties) → states ≡ [] → groups ≡ [] ∷ [] → ties ≡ empty → IsWhole 320 240 (values_of states) groups ties
+pub at_start : (states : List (Option (Held Object))) (groups : List (List (ℕ × ℤ))) (ties : Ties) → states ≡ [] → groups ≡ [] ∷ [] → ties ≡ empty → IsWhole (record { w = 320; h = 240; objects = values_of states; groups = groups }) ties
 at_start states groups ties e f g = rw (e, f, g) (record {
   w_low = omega arith;
   w_high = omega arith;
@@ -505,16 +505,16 @@ known_tie ties ties' id kind fault e f =
     none-some fault (sym (f ∙ ap (λ tie. if is_some tie then None else Some Unknown) there))
 
 -- the same of states
-pub made_to : (w h : ℕ) (states : List (Option (Held Object))) (groups : List (List (ℕ × ℤ))) (ties : Ties) → IsWhole w h (values_of states) groups ties
+pub made_to : {w h : ℕ} (states : List (Option (Held Object))) {groups : List (List (ℕ × ℤ))} {ties : Ties} → IsWhole (record { w = w; h = h; objects = values_of states; groups = groups }) ties
     → (states' : List (Option (Held Object))) (s : Held Object) (name : List ℕ) (kind : Kind) (id : ℕ) (groups' : List (List (ℕ × ℤ))) (ties' : Ties) → id ≡ length states + 1 → s.value ≡ fresh id name kind
     → states' ≡ states ++ Some s ∷ [] → groups' ≡ with_group groups None (put_top (group groups None) (length groups) (pos 0)) ++ [] ∷ [] → ties' ≡ insert ties id (alone kind)
-    → IsWhole w h (values_of states') groups' ties'
-made_to w h states groups ties whole states' s name kind id groups' ties' next new e f g =
+    → IsWhole (record { w = w; h = h; objects = values_of states'; groups = groups' }) ties'
+made_to states {groups = groups} {ties = ties} whole states' s name kind id groups' ties' next new e f g =
     let objects : List (Option Object) = values_of states in
     let size : length objects ≡ length states = length-map states (λ slot. option_map value_of slot) in
     let next' : id ≡ length objects + 1 = next ∙ ap (λ n. n + 1) (sym size) in
     let place : length groups ≡ id = whole.grouped ∙ sym next' in
-    made w h objects groups ties whole id s.value (values_of states') groups' ties' next'
+    made whole id s.value (values_of states') groups' ties' next'
     (ap (λ o. o.id) new) (ap (λ o. o.parent) new) (ap (λ o. o.layer) new) (subst (λ o. IsObject o) (sym new) (new_object id name kind))
     (ap values_of e ∙ map-append (λ slot. option_map value_of slot) states (Some s ∷ []))
     (f ∙ ap (λ n. with_group groups None (put_top (group groups None) n (pos 0)) ++ [] ∷ []) place)

@@ -123,7 +123,7 @@ never_rect content.Smart s e = cc
 never_rect (content.Image part) s e = cc
 never_rect (content.Text part) s e = cc
 
-module _ (w h : ℕ) (objects : List (Option Object)) (groups : List (List (ℕ × ℤ))) (ties : Ties) (whole : IsWhole w h objects groups ties) where
+module _ {w h : ℕ} {objects : List (Option Object)} {groups : List (List (ℕ × ℤ))} {ties : Ties} (whole : IsWhole (record { w = w; h = h; objects = objects; groups = groups }) ties) where
   abbrev is_there : ℕ → Bool
   is_there id = is_some (of_id objects id)
 
@@ -175,7 +175,7 @@ module _ (w h : ℕ) (objects : List (Option Object)) (groups : List (List (ℕ 
     stands x there = go (of_id objects x) refl there where
       go : (f : Option Object) → of_id objects x ≡ f → is_some f ≡ true → Has x (siblings groups (over x))
       go None e t = absurd (true≢false (sym t))
-      go (Some o) e t = subst (λ p. Has x (siblings groups p)) (sym (parent_is x o e)) (has_layer (group groups o.parent) x o.layer (stands_in w h objects groups ties whole x o e))
+      go (Some o) e t = subst (λ p. Has x (siblings groups p)) (sym (parent_is x o e)) (has_layer (group groups o.parent) x o.layer (stands_in whole x o e))
 
     same_place : (a b : Option ℕ) → nest.IsParent is_there a → nest.IsParent is_there b → place a ≡ place b → a ≡ b
     same_place None None p q e = refl
@@ -368,7 +368,7 @@ module _ (w h : ℕ) (objects : List (Option Object)) (groups : List (List (ℕ 
         go None e later = later
         go (Some o) e later =
             choice (option_eq ◌==◌ o.parent parent) o (order.members (listed xs) parent)
-            (λ same. subst (λ parent. layer_in (group groups parent) o.id ≡ Some o.layer) (mem.is_over o.parent parent same) (stands_in w h objects groups ties whole o.id o (ap (of_id objects) (whole.own x o e) ∙ e)))
+            (λ same. subst (λ parent. layer_in (group groups parent) o.id ≡ Some o.layer) (mem.is_over o.parent parent same) (stands_in whole o.id o (ap (of_id objects) (whole.own x o e) ∙ e)))
             later
 
       painted_layers : ((at : ℕ) → stack.IsLayered (get_or groups at [])) → (parent : Option ℕ) → AllPairs (λ a b. a.layer ≤ℤ b.layer) (order.members painted parent)

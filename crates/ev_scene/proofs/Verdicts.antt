@@ -137,7 +137,7 @@ clipped_by id u e = ap (λ clipper. option_map_or (λ clipper. clipper == id) cl
 
 -- ---- verdicts
 
-module _ (w h : ℕ) (objects : List (Option Object)) (groups : List (List (ℕ × ℤ))) (ties : Ties) (whole : IsWhole w h objects groups ties) (sound : IsSound (get ties)) where
+module _ {w h : ℕ} {objects : List (Option Object)} {groups : List (List (ℕ × ℤ))} {ties : Ties} (whole : IsWhole (record { w = w; h = h; objects = objects; groups = groups }) ties) (sound : IsSound (get ties)) where
   abbrev board : Board
   board = record { w = w; h = h; objects = objects; groups = groups }
 
@@ -180,7 +180,7 @@ module _ (w h : ℕ) (objects : List (Option Object)) (groups : List (List (ℕ 
     module _ (c : Object) (also : of_id objects c.id ≡ Some c) where
       cycle_same : has (up_of ties c.id) o.id ≡ list_any (λ u. u.id == o.id) (up (live objects) c)
       cycle_same =
-          ap (λ ids. has ids o.id) (sym (ids_up (live objects) (get ties) (λ id. whole.tied id ∙ ap (option_map tie_of) (sym (live_found w h objects groups ties whole id))) sound ties (λ id. refl) c (live_found w h objects groups ties whole c.id ∙ also)))
+          ap (λ ids. has ids o.id) (sym (ids_up (live objects) (get ties) (λ id. whole.tied id ∙ ap (option_map tie_of) (sym (live_found whole id))) sound ties (λ id. refl) c (live_found whole c.id ∙ also)))
           ∙ has_id (up (live objects) c) o.id
 
       siblings_same : links.are_siblings ties o.id c.id ≡ are_siblings o c
@@ -197,7 +197,7 @@ module _ (w h : ℕ) (objects : List (Option Object)) (groups : List (List (ℕ 
           join_same (is_some (get ties o.id) && is_some (get ties c.id)) (o.id == c.id) (is_smart c) (has (inside board o) c.id) (is_clipping board o)
           (links.is_smart (kind_at (get ties) c.id)) (is_inside ties c.id o.id) (links.is_clipping ties o.id)
           (both_tied o.id c.id o c there also) (ap links.is_smart (kind_is c.id c also) ∙ smart_same c.content)
-          (sym (inside_is w h objects groups ties whole sound o there c.id (ap is_some also))) clipping_same
+          (sym (inside_is whole sound o there c.id (ap is_some also))) clipping_same
 
 -- ---- answers
 
@@ -240,13 +240,13 @@ pub changed_is : (b : Board) (o : Object) (c : Change) (objects' : List (Option 
     → ◌≡◌ {A = Board} (record { w = b.w; h = b.h; objects = objects'; groups = b.groups }) (changed c b o)
 changed_is b o c objects' there e = ap (λ objects. record { w = b.w; h = b.h; objects = objects; groups = b.groups }) (e ∙ ap (λ slot. put b.objects o.id (option_map (apply c) slot)) there)
 
-module _ (w h : ℕ) (objects : List (Option Object)) (groups : List (List (ℕ × ℤ))) (ties : Ties) (whole : IsWhole w h objects groups ties) (sound : IsSound (get ties))
+module _ {w h : ℕ} {objects : List (Option Object)} {groups : List (List (ℕ × ℤ))} {ties : Ties} (whole : IsWhole (record { w = w; h = h; objects = objects; groups = groups }) ties) (sound : IsSound (get ties))
     (name other : List ℕ) (o c : Object) (found : Some o ≡ named objects name) (near : Some c ≡ named objects other) (there : of_id objects o.id ≡ Some o) (also : of_id objects c.id ≡ Some c) where
   abbrev scene : Board
   scene = record { w = w; h = h; objects = objects; groups = groups }
 
   clip_known : known scene name (λ o. known scene other (clip_verdict scene o)) ≡ option_map refusal_of (clip_fault ties o.id c.id)
-  clip_known = known_at scene name o (λ o. known scene other (clip_verdict scene o)) found ∙ known_at scene other c (clip_verdict scene o) near ∙ clip_verdict_is w h objects groups ties whole sound o there c also
+  clip_known = known_at scene name o (λ o. known scene other (clip_verdict scene o)) found ∙ known_at scene other c (clip_verdict scene o) near ∙ clip_verdict_is whole sound o there c also
 
   pub clip_refuses : (fault : LinkErr) (cause : Refusal) → Some fault ≡ clip_fault ties o.id c.id → cause ≡ refusal_of fault → Refuses (known scene name (λ o. known scene other (clip_verdict scene o))) cause
   clip_refuses fault cause = refuses _ _ fault cause clip_known
@@ -261,7 +261,7 @@ module _ (w h : ℕ) (objects : List (Option Object)) (groups : List (List (ℕ 
       ∙ sym (with_at scene name o (λ o. with_named scene other (λ c. changed (change.Clip (Some c.id)) scene o)) found ∙ with_at scene other c (λ c. changed (change.Clip (Some c.id)) scene o) near)
 
   join_known : known scene name (λ o. known scene other (join_verdict scene o)) ≡ option_map refusal_of (join_fault ties o.id c.id)
-  join_known = known_at scene name o (λ o. known scene other (join_verdict scene o)) found ∙ known_at scene other c (join_verdict scene o) near ∙ join_verdict_is w h objects groups ties whole sound o there c also
+  join_known = known_at scene name o (λ o. known scene other (join_verdict scene o)) found ∙ known_at scene other c (join_verdict scene o) near ∙ join_verdict_is whole sound o there c also
 
   pub join_refuses : (fault : LinkErr) (cause : Refusal) → Some fault ≡ join_fault ties o.id c.id → cause ≡ refusal_of fault → Refuses (known scene name (λ o. known scene other (join_verdict scene o))) cause
   join_refuses fault cause = refuses _ _ fault cause join_known
@@ -279,13 +279,13 @@ module _ (w h : ℕ) (objects : List (Option Object)) (groups : List (List (ℕ 
   pub join_moved : (b : Board) → false ≡ option_eq nat_eq o.parent (Some c.id) → b ≡ rehomed (Some c.id) scene o → b ≡ with_named scene name (λ o. with_named scene other (λ s. homed (Some s.id) scene o))
   join_moved b e f = f ∙ sym (join_made ∙ homed_by scene o (Some c.id) false e)
 
-module _ (w h : ℕ) (objects : List (Option Object)) (groups : List (List (ℕ × ℤ))) (ties : Ties) (whole : IsWhole w h objects groups ties) (sound : IsSound (get ties))
+module _ {w h : ℕ} {objects : List (Option Object)} {groups : List (List (ℕ × ℤ))} {ties : Ties} (whole : IsWhole (record { w = w; h = h; objects = objects; groups = groups }) ties) (sound : IsSound (get ties))
     (name : List ℕ) (o : Object) (found : Some o ≡ named objects name) (there : of_id objects o.id ≡ Some o) where
   abbrev seen : Board
   seen = record { w = w; h = h; objects = objects; groups = groups }
 
   leave_known : known seen name (λ o. unless (not (is_clipping seen o)) refusal.Clipping) ≡ option_map refusal_of (leave_fault ties o.id)
-  leave_known = known_at seen name o (λ o. unless (not (is_clipping seen o)) refusal.Clipping) found ∙ leave_verdict_is w h objects groups ties whole sound o there
+  leave_known = known_at seen name o (λ o. unless (not (is_clipping seen o)) refusal.Clipping) found ∙ leave_verdict_is whole sound o there
 
   pub leave_refuses : (fault : LinkErr) (cause : Refusal) → Some fault ≡ leave_fault ties o.id → cause ≡ refusal_of fault → Refuses (known seen name (λ o. unless (not (is_clipping seen o)) refusal.Clipping)) cause
   leave_refuses fault cause = refuses _ _ fault cause leave_known

@@ -3,7 +3,6 @@ use Rattle.std.specs.Prelude.{◌≡◌, ◌≢◌, ℕ, ℤ, ◌≤◌, pos, �
 use Rattle.ev_geom.specs.Area.{Area}
 use Rattle.ev_model.specs.Limits.{AreObjects}
 use Rattle.ev_model.specs.Look.{look_of, looks}
-use Rattle.ev_model.specs.Order.{ids}
 use Rattle.ev_model.specs.Stage.{stage}
 use Rattle.ev_model.specs.declared.scene.Record.{Record}
 use Rattle.ev_model.specs.declared.scene.Scene.{Scene}

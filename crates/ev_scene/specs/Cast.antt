@@ -1,7 +1,7 @@
 -- What is kept of a scene, and how it stands for a board.
 use Rattle.std.specs.Prelude.{◌≡◌}
 use Rattle.ev_scene.specs.declared.cast.Cast.{Cast}
-use Rattle.ev_scene.specs.Board.{Kept, Board, board, values_of}
+use Rattle.ev_scene.specs.Board.{Kept, Board, board}
 use Rattle.ev_scene.specs.Whole.{IsWhole}
 
 abbrev pub kept_of : Cast → Kept
@@ -12,7 +12,7 @@ board_of cast = board (kept_of cast)
 
 -- what holds of a scene holds of it
 abbrev pub IsCast : Cast → Type 0
-IsCast cast = IsWhole cast.w cast.h (values_of cast.roll.states) cast.groups cast.links
+IsCast cast = IsWhole (board_of cast) cast.links
 
 -- all but the objects stays
 pub record IsSameButRoll (old new : Cast) : Type 0 where

@@ -1,5 +1,5 @@
 -- What holds of each scene.
-use Rattle.std.specs.Prelude.{◌≡◌, ℕ, ℤ, ◌≤◌, ◌+◌, List, [], length, get_or, Option, Some}
+use Rattle.std.specs.Prelude.{◌≡◌, ℕ, ◌≤◌, ◌+◌, [], length, get_or, Some}
 use Rattle.std.specs.FinMap.{get}
 use Rattle.std.specs.Option.{option_map, option_and_then}
 use Rattle.ev_model.specs.Limits.{IsObject}
@@ -7,17 +7,18 @@ use Rattle.ev_model.specs.declared.object.Object.{Object}
 use Rattle.ev_stack.specs.Order.{layer_in}
 use Rattle.ev_links.specs.Ties.{Ties}
 use Rattle.ev_scene.specs.Slots.{of_id}
+use Rattle.ev_scene.specs.Board.{Board}
 use Rattle.ev_scene.specs.Ties.{tie_of, layer_at}
 
 -- the canvas has 1 to 4096 columns and rows; each object stands under its id and keeps its limits; exactly the objects of a parent
 -- stand in its group, each with its layer; and the ties are those of the objects
-pub record IsWhole (w h : ℕ) (objects : List (Option Object)) (groups : List (List (ℕ × ℤ))) (ties : Ties) : Type 0 where
-  pub w_low : 1 ≤ w
-  pub w_high : w ≤ 4096
-  pub h_low : 1 ≤ h
-  pub h_high : h ≤ 4096
-  pub own : (id : ℕ) (o : Object) → of_id objects id ≡ Some o → o.id ≡ id
-  pub limits : (id : ℕ) (o : Object) → of_id objects id ≡ Some o → IsObject o
-  pub stands : (at id : ℕ) → layer_in (get_or groups at []) id ≡ option_and_then (layer_at at) (of_id objects id)
-  pub grouped : length groups ≡ length objects + 1
-  pub tied : (id : ℕ) → get ties id ≡ option_map tie_of (of_id objects id)
+pub record IsWhole (scene : Board) (ties : Ties) : Type 0 where
+  pub w_low : 1 ≤ scene.w
+  pub w_high : scene.w ≤ 4096
+  pub h_low : 1 ≤ scene.h
+  pub h_high : scene.h ≤ 4096
+  pub own : (id : ℕ) (o : Object) → of_id scene.objects id ≡ Some o → o.id ≡ id
+  pub limits : (id : ℕ) (o : Object) → of_id scene.objects id ≡ Some o → IsObject o
+  pub stands : (at id : ℕ) → layer_in (get_or scene.groups at []) id ≡ option_and_then (layer_at at) (of_id scene.objects id)
+  pub grouped : length scene.groups ≡ length scene.objects + 1
+  pub tied : (id : ℕ) → get ties id ≡ option_map tie_of (of_id scene.objects id)

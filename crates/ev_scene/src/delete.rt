@@ -53,7 +53,7 @@ impl Cast {
         ensures made { self.new.roll.made ≡ self.old.roll.made }
     {
         let ids = self.inside(id)?;
-        let _ties = self.links.len();
+        self.tell_ties();
         self.links.drop_all(&ids);
         remove_from(&mut self.groups, parent, id);
         clear_all(&mut self.groups, &ids);
@@ -72,7 +72,7 @@ impl Cast {
         ensures grows { self.old.roll.made ≤ self.new.roll.made }
     {
         let released = self.released(id, parent)?;
-        let _ties = self.links.len();
+        self.tell_ties();
         let Ok(()) = self.links.drop_id(id) else {
             unreachable!()
         };

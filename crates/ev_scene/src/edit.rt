@@ -88,7 +88,7 @@ impl Cast {
             return Err(Refusal::Full);
         }
         let id = self.roll.next_id();
-        let _ties = self.links.len();
+        self.tell_ties();
         self.roll.reserve()?;
         let object = fresh(self.roll.alloc(), id, *name, kind)?;
         let state = self.roll.make(object)?;

@@ -30,7 +30,7 @@ impl Cast {
         ensures made { self.new.roll.made ≤ self.old.roll.made + 1 }
         ensures grows { self.old.roll.made ≤ self.new.roll.made }
     {
-        let _ties = self.links.len();
+        self.tell_ties();
         let Some(object) = self.roll.named(name) else {
             return Err(Refusal::Unknown);
         };
@@ -77,7 +77,7 @@ impl Cast {
         ensures made { self.new.roll.made ≤ self.old.roll.made + 1 }
         ensures grows { self.old.roll.made ≤ self.new.roll.made }
     {
-        let _ties = self.links.len();
+        self.tell_ties();
         let Some(object) = self.roll.named(name) else {
             return Err(Refusal::Unknown);
         };
@@ -107,7 +107,7 @@ impl Cast {
         ensures made { self.new.roll.made ≤ self.old.roll.made + 1 }
         ensures grows { self.old.roll.made ≤ self.new.roll.made }
     {
-        let _ties = self.links.len();
+        self.tell_ties();
         let Some(object) = self.roll.named(name) else {
             return Err(Refusal::Unknown);
         };
@@ -132,7 +132,7 @@ impl Cast {
         requires other { (o : Object) → of_id (values_of self.old.roll.states) id ≡ Some o → place o.parent ≢ place to }
         requires known { place to < length self.old.groups }
         ensures ok { OnOk result ((o : Object) → of_id (values_of self.old.roll.states) id ≡ Some o → board_of self.new ≡ rehomed to (board_of self.old) o) }
-        ensures whole { OnOk result (IsWhole self.new.w self.new.h (values_of self.new.roll.states) self.new.groups (with_parent self.old.links id to)) }
+        ensures whole { OnOk result (IsWhole (board_of self.new) (with_parent self.old.links id to)) }
         ensures err { OnErr result (kept_of self.new ≡ record (kept_of self.old) { made = self.new.roll.made }) }
         ensures links { self.new.links ≡ self.old.links }
         ensures made { self.new.roll.made ≤ self.old.roll.made + 1 }

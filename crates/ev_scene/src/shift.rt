@@ -83,7 +83,7 @@ impl Cast {
         ensures { (o : Object) → of_id (values_of self.now.roll.states) id ≡ Some o → is_smart o ≡ true
             → Refuses (unless (list_all (may_shift dx dy) (objects_in (board_of self.now) o)) refusal.Range) result }
     {
-        let _ties = self.links.len();
+        self.tell_ties();
         for other in 1..self.roll.next_id() {
             if self.links.inside(other, id) && !may_shift_id(&self.roll, other, dx, dy) {
                 return Refusal::Range;

@@ -1,6 +1,8 @@
 // What holds of each scene, whatever was edited.
 ghost use Rattle.std.specs.Prelude.{◌≡◌, ℕ, [], get_or};
+ghost use Rattle.std.specs.FinMap.{get};
 ghost use Rattle.ev_stack.specs.Order.{IsOrder};
+ghost use Rattle.ev_links.specs.Ties as ties;
 ghost use Rattle.ev_scene.specs.Board.{board, stage_of};
 ghost use Rattle.ev_scene.specs.Cast.{IsCast, board_of};
 ghost use Rattle.ev_scene.specs.Sound.{IsSound};
@@ -25,8 +27,15 @@ impl Cast {
         requires { IsCast self.now }
         ensures { IsSound (stage_of (board_of self.now)) }
     {
-        let _ties = self.links.len();
+        self.tell_ties();
         self.tell_orders();
+    }
+
+    // All ties are sound: they know it, and tell it here.
+    pub fn tell_ties(&self)
+        ensures { ties.IsSound (get self.now.links) }
+    {
+        let _ties = self.links.len();
     }
 
     // Those who stand together are an order, wherever that is.

@@ -21,12 +21,12 @@ use Rattle.ev_scene.proofs.cast.Cast.capture.Goals as goal
 pub records-requires-clause-found : goal.records-requires-clause-found
 records-requires-clause-found c =
     let P : List Object → Type 0 = λ objects. (id : ℕ) → with_id objects id ≡ of_id (values_of c.args.self.now.roll.states) id in
-    subst P (sym (c.in_ok-objects.ensures).objects) (order_found c.args.self.now.w c.args.self.now.h (values_of c.args.self.now.roll.states) c.args.self.now.groups c.args.self.now.links c.requires c.len-ties.ensures.sound)
+    subst P (sym (c.in_ok-objects.ensures).objects) (order_found c.requires c.len-ties.ensures.sound)
 
 pub records-requires-clause-ways : goal.records-requires-clause-ways
 records-requires-clause-ways c =
     let P : List Object → Type 0 = λ objects. All (λ o. IsTrue (ends (length objects) (next objects) (next objects o))) objects in
-    subst P (sym (c.in_ok-objects.ensures).objects) (ways c.args.self.now.w c.args.self.now.h (values_of c.args.self.now.roll.states) c.args.self.now.groups c.args.self.now.links c.requires c.len-ties.ensures.sound)
+    subst P (sym (c.in_ok-objects.ensures).objects) (ways c.requires c.len-ties.ensures.sound)
 
 pub invariant_of-result : goal.invariant_of-result
 invariant_of-result c =
@@ -36,9 +36,9 @@ invariant_of-result c =
     let orders = (c.in_ok-objects.ensures).orders in
     let seen : Stage = record { w = c.args.self.now.w; h = c.args.self.now.h; objects = values c.in_ok-objects.objects } in
     let all : (at : ℕ) → IsOrder (get_or c.args.self.now.groups at []) =
-    all_orders c.args.self.now.w c.args.self.now.h (values_of c.args.self.now.roll.states) c.args.self.now.groups c.args.self.now.links c.requires c.len-ties.ensures.sound orders.top orders.each in
+    all_orders c.requires c.len-ties.ensures.sound orders.top orders.each in
     let once : IsDistinct (ids (values c.in_ok-objects.objects)) =
-    subst Q (sym (c.in_ok-objects.ensures).objects) (order_once c.args.self.now.w c.args.self.now.h (values_of c.args.self.now.roll.states) c.args.self.now.groups c.args.self.now.links c.requires c.len-ties.ensures.sound
+    subst Q (sym (c.in_ok-objects.ensures).objects) (order_once c.requires c.len-ties.ensures.sound
     (λ at. (all at).distinct)) in
     record {
       w_low = c.requires.w_low;
@@ -48,7 +48,7 @@ invariant_of-result c =
       objects = are_objects c.in_ok-objects.objects (subst P (sym (c.in_ok-objects.ensures).objects) (holds_in_order IsObject (values_of c.args.self.now.roll.states) (ids_in (board_of c.args.self.now) None) c.requires.limits));
       sound =
           subst R (sym (c.in_ok-objects.ensures).objects)
-          (sound_stage c.args.self.now.w c.args.self.now.h (values_of c.args.self.now.roll.states) c.args.self.now.groups c.args.self.now.links c.requires c.len-ties.ensures.sound all);
+          (sound_stage c.requires c.len-ties.ensures.sound all);
       looks = (c.in_ok-records.ensures);
       apart = subst (λ looks. AllPairs (λ a b. a ≢ b) (map (λ l. l.id) looks)) (sym c.in_ok-records.ensures) (looks_differ seen once);
       areas = records_lie seen _ c.in_ok-records.ensures;

@@ -10,5 +10,5 @@ change-requires-clause-fit c = let look : IsLook c.in-Some-change.change = searc
 pub returns-clause-whole : goal.returns-clause-whole
 returns-clause-whole c =
     let look : IsLook c.in-Some-change.change = search rules in
-    looked c.args.self.now.w c.args.self.now.h (values_of c.args.self.now.roll.states) c.args.self.now.groups c.args.self.now.links c.requires.whole c.in-Some.object.now.id c.in-Some.object.now c.in-Some-change.change
+    looked c.requires.whole c.in-Some.object.now.id c.in-Some.object.now c.in-Some-change.change
     (values_of c.change.new.self.states) (c.in-Some.ensures).there look (c.in_ok-change.ensures).ok

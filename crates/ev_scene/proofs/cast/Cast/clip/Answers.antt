@@ -6,7 +6,7 @@ use Rattle.ev_scene.proofs.cast.Cast.clip.Goals as goal
 
 pub returns-in-Some-clip_fault-clause-edits : goal.returns-in-Some-clip_fault-clause-edits
 returns-in-Some-clip_fault-clause-edits c = (
-  clip_refuses c.args.self.now.w c.args.self.now.h (values_of c.args.self.now.roll.states) c.args.self.now.groups c.args.self.now.links c.requires.whole c.len-ties.ensures.sound
+  clip_refuses c.requires.whole c.tell_ties.ensures
       c.args.name.now c.args.clipper.now c.in-Some.object.now c.in-Some-named.by.now (c.in-Some.ensures).value (c.in-Some-named.ensures).value (c.in-Some.ensures).there (c.in-Some-named.ensures).there
       c.in-Some-clip_fault.fault c.refusal_of.result (c.in-Some-clip_fault.ensures).value c.refusal_of.ensures,
   refl,
@@ -18,7 +18,7 @@ change-requires-clause-there c = has_state c.args.self.now.roll.states c.in-Some
 pub returns-in_err-change-clause-edits : goal.returns-in_err-change-clause-edits
 returns-in_err-change-clause-edits c =
     wanting _ _ _ _ c.from_residual.result
-    (clip_allows c.args.self.now.w c.args.self.now.h (values_of c.args.self.now.roll.states) c.args.self.now.groups c.args.self.now.links c.requires.whole c.len-ties.ensures.sound
+    (clip_allows c.requires.whole c.tell_ties.ensures
     c.args.name.now c.args.clipper.now c.in-Some.object.now c.in-Some-named.by.now (c.in-Some.ensures).value (c.in-Some-named.ensures).value (c.in-Some.ensures).there (c.in-Some-named.ensures).there
     (c.in_default-clip_fault.ensures).value)
     c.from_residual.ensures.1
@@ -26,15 +26,15 @@ returns-in_err-change-clause-edits c =
 
 pub returns-clause-whole : goal.returns-clause-whole
 returns-clause-whole c =
-    clipped c.args.self.now.w c.args.self.now.h (values_of c.args.self.now.roll.states) c.args.self.now.groups c.args.self.now.links c.requires.whole c.in-Some.object.now.id c.in-Some.object.now (Some c.in-Some-named.by.now.id)
+    clipped c.requires.whole c.in-Some.object.now.id c.in-Some.object.now (Some c.in-Some-named.by.now.id)
     (values_of c.change.new.self.states) c.clip.new.self (c.in-Some.ensures).there (c.in_ok-change.ensures).ok (c.in-Ok.ensures).ok
 
 pub returns-clause-edits : goal.returns-clause-edits
 returns-clause-edits c = (
-  clip_allows c.args.self.now.w c.args.self.now.h (values_of c.args.self.now.roll.states) c.args.self.now.groups c.args.self.now.links c.requires.whole c.len-ties.ensures.sound
+  clip_allows c.requires.whole c.tell_ties.ensures
       c.args.name.now c.args.clipper.now c.in-Some.object.now c.in-Some-named.by.now (c.in-Some.ensures).value (c.in-Some-named.ensures).value (c.in-Some.ensures).there (c.in-Some-named.ensures).there
       (c.in_default-clip_fault.ensures).value,
-  clip_made c.args.self.now.w c.args.self.now.h (values_of c.args.self.now.roll.states) c.args.self.now.groups c.args.self.now.links c.requires.whole c.len-ties.ensures.sound
+  clip_made c.requires.whole c.tell_ties.ensures
       c.args.name.now c.args.clipper.now c.in-Some.object.now c.in-Some-named.by.now (c.in-Some.ensures).value (c.in-Some-named.ensures).value (c.in-Some.ensures).there (c.in-Some-named.ensures).there
       (values_of c.change.new.self.states) (c.in_ok-change.ensures).ok,
 )

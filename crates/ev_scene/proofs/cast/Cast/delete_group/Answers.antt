@@ -3,36 +3,36 @@ use Rattle.ev_scene.proofs.cast.Cast.delete_group.Goals as goal
 
 pub drop_all-requires-clause-members : goal.drop_all-requires-clause-members
 drop_all-requires-clause-members c =
-    ids_members c.args.self.now.w c.args.self.now.h c.args.self.now.roll.states c.args.self.now.groups c.args.self.now.links c.requires.whole c.args.id c.args.parent c.requires.object.0 c.requires.object.1 c.requires.object.2
-    c.len-ties.ensures.sound c.requires.object.3 c.in_ok-ids.ids.items (c.in_ok-ids.ensures) c.deref.result.now c.deref.ensures.value
+    ids_members c.args.self.now.roll.states c.requires.whole c.args.id c.args.parent c.requires.object.0 c.requires.object.1 c.requires.object.2
+    c.tell_ties.ensures c.requires.object.3 c.in_ok-ids.ids.items (c.in_ok-ids.ensures) c.deref.result.now c.deref.ensures.value
 
 pub drop_all-requires-clause-clipped : goal.drop_all-requires-clause-clipped
 drop_all-requires-clause-clipped c =
-    ids_clipped c.args.self.now.w c.args.self.now.h c.args.self.now.roll.states c.args.self.now.groups c.args.self.now.links c.requires.whole c.args.id c.args.parent c.requires.object.0 c.requires.object.1 c.requires.object.2
-    c.len-ties.ensures.sound c.requires.object.3 c.in_ok-ids.ids.items (c.in_ok-ids.ensures) c.deref.result.now c.deref.ensures.value
+    ids_clipped c.args.self.now.roll.states c.requires.whole c.args.id c.args.parent c.requires.object.0 c.requires.object.1 c.requires.object.2
+    c.tell_ties.ensures c.requires.object.3 c.in_ok-ids.ids.items (c.in_ok-ids.ensures) c.deref.result.now c.deref.ensures.value
 
 pub remove_from-requires-clause-known : goal.remove_from-requires-clause-known
 remove_from-requires-clause-known c =
-    gone_known c.args.self.now.w c.args.self.now.h c.args.self.now.roll.states c.args.self.now.groups c.args.self.now.links c.requires.whole c.args.id c.args.parent c.requires.object.0 c.requires.object.1 c.requires.object.2
+    gone_known c.args.self.now.roll.states c.requires.whole c.args.id c.args.parent c.requires.object.0 c.requires.object.1 c.requires.object.2
 
 pub clear_all-requires : goal.clear_all-requires
 clear_all-requires c = record {
   serial =
-      ids_serial c.args.self.now.w c.args.self.now.h c.args.self.now.roll.states c.args.self.now.groups c.args.self.now.links c.requires.whole c.args.id c.args.parent c.requires.object.0 c.requires.object.1 c.requires.object.2
-      c.len-ties.ensures.sound c.requires.object.3 c.in_ok-ids.ids.items (c.in_ok-ids.ensures) c.deref-2.result.now c.deref-2.ensures.value;
+      ids_serial c.args.self.now.roll.states c.requires.whole c.args.id c.args.parent c.requires.object.0 c.requires.object.1 c.requires.object.2
+      c.tell_ties.ensures c.requires.object.3 c.in_ok-ids.ids.items (c.in_ok-ids.ensures) c.deref-2.result.now c.deref-2.ensures.value;
 }
 
 pub returns-clause-whole : goal.returns-clause-whole
 returns-clause-whole c =
-    group_whole c.args.self.now.w c.args.self.now.h c.args.self.now.roll.states c.args.self.now.groups c.args.self.now.links c.requires.whole c.args.id c.args.parent c.requires.object.0 c.requires.object.1 c.requires.object.2
-    c.len-ties.ensures.sound c.requires.object.3 c.in_ok-ids.ids.items (c.in_ok-ids.ensures)
+    group_whole c.args.self.now.roll.states c.requires.whole c.args.id c.args.parent c.requires.object.0 c.requires.object.1 c.requires.object.2
+    c.tell_ties.ensures c.requires.object.3 c.in_ok-ids.ids.items (c.in_ok-ids.ensures)
     c.remove_from.new.groups c.clear_all.new.groups c.remove_from.ensures.moved c.deref-2.result.now c.deref-2.ensures.value c.clear_all.ensures
     c.take_all.new.roll.states c.deref-3.result.now c.deref-3.ensures.value c.take_all.ensures.states c.take_all.ensures.size
     c.remove_from.ensures.order.distinct c.drop_all.new.self c.deref.result.now c.deref.ensures.value c.drop_all.ensures
 
 pub returns-clause-ok : goal.returns-clause-ok
 returns-clause-ok c =
-    group_board c.args.self.now.w c.args.self.now.h c.args.self.now.roll.states c.args.self.now.groups c.args.self.now.links c.requires.whole c.args.id c.args.parent c.requires.object.0 c.requires.object.1 c.requires.object.2
-    c.len-ties.ensures.sound c.requires.object.3 c.in_ok-ids.ids.items (c.in_ok-ids.ensures)
+    group_board c.args.self.now.roll.states c.requires.whole c.args.id c.args.parent c.requires.object.0 c.requires.object.1 c.requires.object.2
+    c.tell_ties.ensures c.requires.object.3 c.in_ok-ids.ids.items (c.in_ok-ids.ensures)
     c.remove_from.new.groups c.clear_all.new.groups c.remove_from.ensures.moved c.deref-2.result.now c.deref-2.ensures.value c.clear_all.ensures
     c.take_all.new.roll.states c.deref-3.result.now c.deref-3.ensures.value c.take_all.ensures.states c.take_all.ensures.size

@@ -6,5 +6,5 @@ use Rattle.ev_scene.proofs.cast.Cast.font.Goals as goal
 
 pub returns-clause-whole : goal.returns-clause-whole
 returns-clause-whole c =
-    looked c.args.self.now.w c.args.self.now.h (values_of c.args.self.now.roll.states) c.args.self.now.groups c.args.self.now.links c.requires.whole c.in-Some.object.now.id c.in-Some.object.now (change.Write (writing.Font c.args.key))
+    looked c.requires.whole c.in-Some.object.now.id c.in-Some.object.now (change.Write (writing.Font c.args.key))
     (values_of c.change.new.self.states) (c.in-Some.ensures).there tt (c.in_ok-change.ensures).ok

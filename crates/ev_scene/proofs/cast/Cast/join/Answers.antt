@@ -1,12 +1,12 @@
 use Rattle.std.proofs.Common.{refl, ap}
-use Rattle.ev_scene.specs.Board.{values_of, board}
+use Rattle.ev_scene.specs.Board.{board}
 use Rattle.ev_scene.proofs.Rehoming.{members_known}
 use Rattle.ev_scene.proofs.Verdicts.{join_refuses, join_allows, join_kept, join_moved, wanting}
 use Rattle.ev_scene.proofs.cast.Cast.join.Goals as goal
 
 pub returns-in-Some-join_fault-clause-edits : goal.returns-in-Some-join_fault-clause-edits
 returns-in-Some-join_fault-clause-edits c = (
-  join_refuses c.args.self.now.w c.args.self.now.h (values_of c.args.self.now.roll.states) c.args.self.now.groups c.args.self.now.links c.requires.whole c.len-ties.ensures.sound
+  join_refuses c.requires.whole c.tell_ties.ensures
       c.args.name.now c.args.smart.now c.in-Some.object.now c.in-Some-named.parent.now (c.in-Some.ensures).value (c.in-Some-named.ensures).value (c.in-Some.ensures).there (c.in-Some-named.ensures).there
       c.in-Some-join_fault.fault c.refusal_of.result (c.in-Some-join_fault.ensures).value c.refusal_of.ensures,
   refl,
@@ -14,32 +14,32 @@ returns-in-Some-join_fault-clause-edits c = (
 
 pub returns-then-eq-clause-edits : goal.returns-then-eq-clause-edits
 returns-then-eq-clause-edits c = (
-  join_allows c.args.self.now.w c.args.self.now.h (values_of c.args.self.now.roll.states) c.args.self.now.groups c.args.self.now.links c.requires.whole c.len-ties.ensures.sound
+  join_allows c.requires.whole c.tell_ties.ensures
       c.args.name.now c.args.smart.now c.in-Some.object.now c.in-Some-named.parent.now (c.in-Some.ensures).value (c.in-Some-named.ensures).value (c.in-Some.ensures).there (c.in-Some-named.ensures).there
       (c.in_default-join_fault.ensures).value,
-  join_kept c.args.self.now.w c.args.self.now.h (values_of c.args.self.now.roll.states) c.args.self.now.groups c.args.self.now.links c.requires.whole c.len-ties.ensures.sound
+  join_kept c.requires.whole c.tell_ties.ensures
       c.args.name.now c.args.smart.now c.in-Some.object.now c.in-Some-named.parent.now (c.in-Some.ensures).value (c.in-Some-named.ensures).value (c.in-Some.ensures).there (c.in-Some-named.ensures).there
       c.if-eq.ensures,
 )
 
 pub rehome-requires-clause-known : goal.rehome-requires-clause-known
 rehome-requires-clause-known c =
-    members_known c.args.self.now.w c.args.self.now.h (values_of c.args.self.now.roll.states) c.args.self.now.groups c.args.self.now.links c.requires.whole c.in-Some-named.parent.now.id c.in-Some-named.parent.now (c.in-Some-named.ensures).there
+    members_known c.requires.whole c.in-Some-named.parent.now.id c.in-Some-named.parent.now (c.in-Some-named.ensures).there
 
 pub returns-in_err-rehome-clause-edits : goal.returns-in_err-rehome-clause-edits
 returns-in_err-rehome-clause-edits c =
     wanting _ _ _ _ c.from_residual.result
-    (join_allows c.args.self.now.w c.args.self.now.h (values_of c.args.self.now.roll.states) c.args.self.now.groups c.args.self.now.links c.requires.whole c.len-ties.ensures.sound
+    (join_allows c.requires.whole c.tell_ties.ensures
     c.args.name.now c.args.smart.now c.in-Some.object.now c.in-Some-named.parent.now (c.in-Some.ensures).value (c.in-Some-named.ensures).value (c.in-Some.ensures).there (c.in-Some-named.ensures).there
     (c.in_default-join_fault.ensures).value)
     c.from_residual.ensures.1 (ap board (c.in_err-rehome.ensures).err)
 
 pub returns-clause-edits : goal.returns-clause-edits
 returns-clause-edits c = (
-  join_allows c.args.self.now.w c.args.self.now.h (values_of c.args.self.now.roll.states) c.args.self.now.groups c.args.self.now.links c.requires.whole c.len-ties.ensures.sound
+  join_allows c.requires.whole c.tell_ties.ensures
       c.args.name.now c.args.smart.now c.in-Some.object.now c.in-Some-named.parent.now (c.in-Some.ensures).value (c.in-Some-named.ensures).value (c.in-Some.ensures).there (c.in-Some-named.ensures).there
       (c.in_default-join_fault.ensures).value,
-  join_moved c.args.self.now.w c.args.self.now.h (values_of c.args.self.now.roll.states) c.args.self.now.groups c.args.self.now.links c.requires.whole c.len-ties.ensures.sound
+  join_moved c.requires.whole c.tell_ties.ensures
       c.args.name.now c.args.smart.now c.in-Some.object.now c.in-Some-named.parent.now (c.in-Some.ensures).value (c.in-Some-named.ensures).value (c.in-Some.ensures).there (c.in-Some-named.ensures).there
       _ c.if-eq.ensures ((c.in_ok-rehome.ensures).ok c.in-Some.object.now (c.in-Some.ensures).there),
 )

@@ -1,12 +1,12 @@
 use Rattle.std.proofs.Common.{refl, ap}
-use Rattle.ev_scene.specs.Board.{values_of, board}
+use Rattle.ev_scene.specs.Board.{board}
 use Rattle.ev_scene.proofs.Rehoming.{not_top}
 use Rattle.ev_scene.proofs.Verdicts.{leave_refuses, leave_allows, leave_kept, leave_moved, wanting}
 use Rattle.ev_scene.proofs.cast.Cast.leave.Goals as goal
 
 pub returns-in-Some-leave_fault-clause-edits : goal.returns-in-Some-leave_fault-clause-edits
 returns-in-Some-leave_fault-clause-edits c = (
-  leave_refuses c.args.self.now.w c.args.self.now.h (values_of c.args.self.now.roll.states) c.args.self.now.groups c.args.self.now.links c.requires.whole c.len-ties.ensures.sound
+  leave_refuses c.requires.whole c.tell_ties.ensures
       c.args.name.now c.in-Some.object.now (c.in-Some.ensures).value (c.in-Some.ensures).there
       c.in-Some-leave_fault.fault c.refusal_of.result c.in-Some-leave_fault.ensures c.refusal_of.ensures,
   refl,
@@ -14,32 +14,32 @@ returns-in-Some-leave_fault-clause-edits c = (
 
 pub returns-then-is_none-clause-edits : goal.returns-then-is_none-clause-edits
 returns-then-is_none-clause-edits c = (
-  leave_allows c.args.self.now.w c.args.self.now.h (values_of c.args.self.now.roll.states) c.args.self.now.groups c.args.self.now.links c.requires.whole c.len-ties.ensures.sound
+  leave_allows c.requires.whole c.tell_ties.ensures
       c.args.name.now c.in-Some.object.now (c.in-Some.ensures).value (c.in-Some.ensures).there
       c.in_default-leave_fault.ensures,
-  leave_kept c.args.self.now.w c.args.self.now.h (values_of c.args.self.now.roll.states) c.args.self.now.groups c.args.self.now.links c.requires.whole c.len-ties.ensures.sound
+  leave_kept c.requires.whole c.tell_ties.ensures
       c.args.name.now c.in-Some.object.now (c.in-Some.ensures).value (c.in-Some.ensures).there
       c.if-is_none.ensures,
 )
 
 pub rehome-requires-clause-other : goal.rehome-requires-clause-other
 rehome-requires-clause-other c =
-    not_top c.args.self.now.w c.args.self.now.h (values_of c.args.self.now.roll.states) c.args.self.now.groups c.args.self.now.links c.requires.whole c.len-ties.ensures.sound c.in-Some.object.now.id c.in-Some.object.now (c.in-Some.ensures).there c.if-is_none.ensures
+    not_top c.requires.whole c.tell_ties.ensures c.in-Some.object.now.id c.in-Some.object.now (c.in-Some.ensures).there c.if-is_none.ensures
 
 pub returns-in_err-rehome-clause-edits : goal.returns-in_err-rehome-clause-edits
 returns-in_err-rehome-clause-edits c =
     wanting _ _ _ _ c.from_residual.result
-    (leave_allows c.args.self.now.w c.args.self.now.h (values_of c.args.self.now.roll.states) c.args.self.now.groups c.args.self.now.links c.requires.whole c.len-ties.ensures.sound
+    (leave_allows c.requires.whole c.tell_ties.ensures
     c.args.name.now c.in-Some.object.now (c.in-Some.ensures).value (c.in-Some.ensures).there
     c.in_default-leave_fault.ensures)
     c.from_residual.ensures.1 (ap board (c.in_err-rehome.ensures).err)
 
 pub returns-clause-edits : goal.returns-clause-edits
 returns-clause-edits c = (
-  leave_allows c.args.self.now.w c.args.self.now.h (values_of c.args.self.now.roll.states) c.args.self.now.groups c.args.self.now.links c.requires.whole c.len-ties.ensures.sound
+  leave_allows c.requires.whole c.tell_ties.ensures
       c.args.name.now c.in-Some.object.now (c.in-Some.ensures).value (c.in-Some.ensures).there
       c.in_default-leave_fault.ensures,
-  leave_moved c.args.self.now.w c.args.self.now.h (values_of c.args.self.now.roll.states) c.args.self.now.groups c.args.self.now.links c.requires.whole c.len-ties.ensures.sound
+  leave_moved c.requires.whole c.tell_ties.ensures
       c.args.name.now c.in-Some.object.now (c.in-Some.ensures).value (c.in-Some.ensures).there
       _ c.if-is_none.ensures ((c.in_ok-rehome.ensures).ok c.in-Some.object.now (c.in-Some.ensures).there),
 )

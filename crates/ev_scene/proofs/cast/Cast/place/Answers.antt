@@ -1,12 +1,11 @@
-use Rattle.ev_scene.specs.Board.{values_of}
 use Rattle.ev_scene.proofs.Standing.{has_group, placed_to}
 use Rattle.ev_scene.proofs.cast.Cast.place.Goals as goal
 
 pub place_in-requires-clause-known : goal.place_in-requires-clause-known
 place_in-requires-clause-known c =
-    has_group c.args.self.now.w c.args.self.now.h (values_of c.args.self.now.roll.states) c.args.self.now.groups c.args.self.now.links c.requires.whole c.in-Some.object.now.id c.in-Some.object.now (c.in-Some.ensures).there
+    has_group c.requires.whole c.in-Some.object.now.id c.in-Some.object.now (c.in-Some.ensures).there
 
 pub returns-clause-whole : goal.returns-clause-whole
 returns-clause-whole c =
-    placed_to c.args.self.now.w c.args.self.now.h (values_of c.args.self.now.roll.states) c.args.self.now.groups c.args.self.now.links c.requires.whole c.in-Some.object.now.id c.in-Some.object.now c.in-Some-named.beside.now.id c.args.above c.place_in.new.groups
+    placed_to c.requires.whole c.in-Some.object.now.id c.in-Some.object.now c.in-Some-named.beside.now.id c.args.above c.place_in.new.groups
     (c.in-Some.ensures).there c.place_in.ensures.order.distinct (c.in_default-place_in.ensures).fault (c.in_default-place_in.ensures).ok

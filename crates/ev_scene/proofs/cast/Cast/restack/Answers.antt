@@ -1,12 +1,11 @@
-use Rattle.ev_scene.specs.Board.{values_of}
 use Rattle.ev_scene.proofs.Standing.{has_group, raised_to}
 use Rattle.ev_scene.proofs.cast.Cast.restack.Goals as goal
 
 pub restack_in-requires-clause-known : goal.restack_in-requires-clause-known
 restack_in-requires-clause-known c =
-    has_group c.args.self.now.w c.args.self.now.h (values_of c.args.self.now.roll.states) c.args.self.now.groups c.args.self.now.links c.requires.whole c.in-Some.object.now.id c.in-Some.object.now (c.in-Some.ensures).there
+    has_group c.requires.whole c.in-Some.object.now.id c.in-Some.object.now (c.in-Some.ensures).there
 
 pub returns-clause-whole : goal.returns-clause-whole
 returns-clause-whole c =
-    raised_to c.args.self.now.w c.args.self.now.h (values_of c.args.self.now.roll.states) c.args.self.now.groups c.args.self.now.links c.requires.whole c.in-Some.object.now.id c.in-Some.object.now c.args.up c.restack_in.new.groups
+    raised_to c.requires.whole c.in-Some.object.now.id c.in-Some.object.now c.args.up c.restack_in.new.groups
     (c.in-Some.ensures).there c.restack_in.ensures.order.distinct c.restack_in.ensures.moved

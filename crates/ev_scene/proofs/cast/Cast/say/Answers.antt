@@ -8,5 +8,5 @@ use Rattle.ev_scene.proofs.cast.Cast.say.Goals as goal
 
 pub returns-clause-whole : goal.returns-clause-whole
 returns-clause-whole c =
-    looked c.args.self.now.w c.args.self.now.h (values_of c.args.self.now.roll.states) c.args.self.now.groups c.args.self.now.links c.requires.whole c.in-Some.object.now.id c.in-Some.object.now (change.Write (writing.Say c.in_ok-words.words))
+    looked c.requires.whole c.in-Some.object.now.id c.in-Some.object.now (change.Write (writing.Say c.in_ok-words.words))
     (values_of c.change.new.self.states) (c.in-Some.ensures).there (subst (λ text. IsText text) (sym c.in_ok-words.ensures) c.requires.text) (c.in_ok-change.ensures).ok

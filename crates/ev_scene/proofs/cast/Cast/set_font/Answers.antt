@@ -6,8 +6,8 @@ use Rattle.ev_scene.proofs.Loading.{stands_there, loaded}
 use Rattle.ev_scene.proofs.cast.Cast.set_font.Goals as goal
 
 pub change-requires-clause-there : goal.change-requires-clause-there
-change-requires-clause-there c = stands_there c.args.self.now.w c.args.self.now.h c.args.self.now.roll.states c.args.self.now.groups c.args.self.now.links c.requires.whole c.args.id kind.Text c.requires.kind
+change-requires-clause-there c = stands_there c.args.self.now.roll.states c.requires.whole c.args.id kind.Text c.requires.kind
 
 pub returns-clause-whole : goal.returns-clause-whole
-returns-clause-whole c = loaded c.args.self.now.w c.args.self.now.h c.args.self.now.roll.states c.args.self.now.groups c.args.self.now.links c.requires.whole c.args.id kind.Text c.requires.kind
+returns-clause-whole c = loaded c.args.self.now.roll.states c.requires.whole c.args.id kind.Text c.requires.kind
     (change.Write (writing.Load c.new-loaded.result)) (values_of c.change.new.self.states) tt (c.in_ok-change.ensures).ok

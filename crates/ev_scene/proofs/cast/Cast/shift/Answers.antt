@@ -51,7 +51,7 @@ returns-in_err-change-clause-edits c =
 
 pub returns-clause-whole : goal.returns-clause-whole
 returns-clause-whole c =
-    looked c.args.self.now.w c.args.self.now.h (values_of c.args.self.now.roll.states) c.args.self.now.groups c.args.self.now.links c.requires.whole c.in-Some.object.now.id c.in-Some.object.now c.in-Some-place.change
+    looked c.requires.whole c.in-Some.object.now.id c.in-Some.object.now c.in-Some-place.change
     (values_of c.change.new.self.states) (c.in-Some.ensures).there (c.in-Some-place.ensures).fit (c.in_ok-change.ensures).ok
 
 pub returns-clause-edits : goal.returns-clause-edits

@@ -14,7 +14,7 @@ pub returns-then-not-may_shift_all-clause-err : goal.returns-then-not-may_shift_
 returns-then-not-may_shift_all-clause-err c o there =
     let dx : FitsSigned w64 c.args.dx = search rules in
     let dy : FitsSigned w64 c.args.dy = search rules in (
-      group_stays c.args.self.now.w c.args.self.now.h (values_of c.args.self.now.roll.states) c.args.self.now.groups c.args.self.now.links c.requires.whole c.args.dx c.args.dy c.args.id c.deref.result.now
+      group_stays c.requires.whole c.args.dx c.args.dy c.args.id c.deref.result.now
           (λ o id smart. c.deref.ensures.value ∙ c.in-Ok.ensures o id smart) c.requires.object
           (told_may c.args.dx c.args.dy dx dy (filter_map (of_id (values_of c.args.self.now.roll.states)) c.deref.result.now) c.may_shift_all.result c.may_shift_all.ensures ∙ c.if-not-may_shift_all.true) o there,
       refl,
@@ -24,7 +24,7 @@ pub returns-then-dy-eq0-clause-ok : goal.returns-then-dy-eq0-clause-ok
 returns-then-dy-eq0-clause-ok c =
     let dx : FitsSigned w64 c.args.dx = search rules in
     let dy : FitsSigned w64 c.args.dy = search rules in
-    group_rests c.args.self.now.w c.args.self.now.h (values_of c.args.self.now.roll.states) c.args.self.now.groups c.args.self.now.links c.requires.whole c.args.dx c.args.dy c.args.id c.deref.result.now
+    group_rests c.requires.whole c.args.dx c.args.dy c.args.id c.deref.result.now
     (λ o id smart. c.deref.ensures.value ∙ c.in-Ok.ensures o id smart) c.requires.object
     (sym (to_z-of_z w64 c.args.dx dx) ∙ ap (to_z w64) c.if-dx-eq0.true) (sym (to_z-of_z w64 c.args.dy dy) ∙ ap (to_z w64) c.if-dy-eq0.true)
     (told_may c.args.dx c.args.dy dx dy (filter_map (of_id (values_of c.args.self.now.roll.states)) c.deref.result.now) c.may_shift_all.result c.may_shift_all.ensures ∙ c.if-not-may_shift_all.false)
@@ -42,7 +42,7 @@ pub returns-clause-whole : goal.returns-clause-whole
 returns-clause-whole c =
     let dx : FitsSigned w64 c.args.dx = search rules in
     let dy : FitsSigned w64 c.args.dy = search rules in
-    shifted_whole c.args.self.now.w c.args.self.now.h (values_of c.args.self.now.roll.states) c.args.self.now.groups c.args.self.now.links c.requires.whole c.args.dx c.args.dy c.deref-2.result.now (values_of c.replace_all.new.self.states)
+    shifted_whole c.requires.whole c.args.dx c.args.dy c.deref-2.result.now (values_of c.replace_all.new.self.states)
     (spread_is c.args.self.now.roll.states c.shifted.new.roll.states (map value_of c.in_ok-states.states.items) _ (values_of c.replace_all.new.self.states) (c.in_ok-states.ensures).same
     (told_states c.args.dx c.args.dy dx dy (filter_map (of_id (values_of c.args.self.now.roll.states)) c.deref-2.result.now) (map value_of c.in_ok-states.states.items) (c.in_ok-states.ensures).states)
     c.replace_all.ensures.states)
@@ -52,7 +52,7 @@ returns-clause-ok c o there =
     let dx : FitsSigned w64 c.args.dx = search rules in
     let dy : FitsSigned w64 c.args.dy = search rules in
     let same : c.deref-2.result.now ≡ c.deref.result.now = c.deref-2.ensures.value ∙ sym c.deref.ensures.value in
-    group_moves c.args.self.now.w c.args.self.now.h (values_of c.args.self.now.roll.states) c.args.self.now.groups c.args.self.now.links c.requires.whole c.args.dx c.args.dy c.args.id c.deref-2.result.now
+    group_moves c.requires.whole c.args.dx c.args.dy c.args.id c.deref-2.result.now
     (λ o id smart. c.deref-2.ensures.value ∙ c.in-Ok.ensures o id smart) c.requires.object (values_of c.replace_all.new.self.states)
     (ap (λ ids. list_all (may_shift c.args.dx c.args.dy) (filter_map (of_id (values_of c.args.self.now.roll.states)) ids)) same
     ∙ told_may c.args.dx c.args.dy dx dy (filter_map (of_id (values_of c.args.self.now.roll.states)) c.deref.result.now) c.may_shift_all.result c.may_shift_all.ensures ∙ c.if-not-may_shift_all.false)

@@ -5,5 +5,5 @@ use Rattle.ev_scene.proofs.cast.Cast.unclip.Goals as goal
 
 pub returns-clause-whole : goal.returns-clause-whole
 returns-clause-whole c =
-    clipped c.args.self.now.w c.args.self.now.h (values_of c.args.self.now.roll.states) c.args.self.now.groups c.args.self.now.links c.requires.whole c.in-Some.object.now.id c.in-Some.object.now None
+    clipped c.requires.whole c.in-Some.object.now.id c.in-Some.object.now None
     (values_of c.change.new.self.states) c.unclip.new.self (c.in-Some.ensures).there (c.in_ok-change.ensures).ok (c.in-Ok.ensures).ok
