@@ -1,63 +1,137 @@
--- The areas of records lie on the canvas.
-use Rattle.std.proofs.Common.{◌≡◌, ℕ, pos, Bool, true, false, ◌&&◌, int_lt, if◌then◌else◌, List, [], ◌∷◌, All, map, filter_map, Some, None, refl, sym, subst, arith}
+-- Records are as a redraw asks.
+use Rattle.std.proofs.Common.{◌≡◌, pos, ◌<ℤ◌, Bool, true, false, ◌&&◌, not, int_lt, if◌then◌else◌, List, [], ◌∷◌, All, map, filter_map, Some, None, refl, sym, ap, ap₂, subst, arith}
 use Rattle.std.proofs.lemmas.Int.{ints, clamps}
-use Rattle.std.proofs.lemmas.List.Elements.{All-from_recursion}
+use Rattle.std.proofs.lemmas.List.Elements.{All-from_recursion, recursion_from_All}
 use Rattle.std.specs.List.{fold, cons_option, AllByRecursion}
-use Rattle.ev_geom.specs.Area.{Area, meet, nowhere, common}
+use Rattle.ev_geom.specs.Area.{Area, meet, common}
 use Rattle.ev_geom.proofs.Meeting.{meet_of, none_meet_w, none_meet_h}
+use Rattle.ev_model.specs.Capture.{IsInside, IsLookOn}
+use Rattle.ev_model.specs.Limits.{IsObject}
 use Rattle.ev_model.specs.Look.{Look, look, looks, look_of, has_pixels}
 use Rattle.ev_model.specs.Stage.{Stage, canvas}
-use Rattle.ev_model.specs.Up.{cut, clip, colour, up, is_smart, is_drawn}
+use Rattle.ev_model.specs.Up.{cut, clip, clips, colour, over_it, is_shown, is_smart, is_drawn}
 use Rattle.ev_model.specs.declared.object.Object.{Object}
 use Rattle.ev_model.specs.declared.scene.Record.{Record}
-use Rattle.ev_scene.specs.Captured.{IsOnCanvas}
 
-module _ (w h : ℕ) where
-  nowhere_lies : IsOnCanvas w h nowhere
-  nowhere_lies = record { left = omega (arith, ints); top = omega (arith, ints); width = omega (arith, ints); height = omega (arith, ints); right = omega (arith, ints); bottom = omega (arith, ints) }
+left_of : (a b : Bool) → (a && b) ≡ true → a ≡ true
+left_of true b e = refl
+left_of false b e = cc
 
-  -- what a rectangle has in common with one that lies on the canvas lies there too
-  meet_lies : (a b : Area) → IsOnCanvas w h a → IsOnCanvas w h (meet a b)
-  meet_lies a b lies = go (int_lt (pos 0) (common a.x a.w b.x b.w)) (int_lt (pos 0) (common a.y a.h b.y b.h)) refl refl where
-    go : (p q : Bool) → int_lt (pos 0) (common a.x a.w b.x b.w) ≡ p → int_lt (pos 0) (common a.y a.h b.y b.h) ≡ q → IsOnCanvas w h (meet a b)
-    go false q e f = subst (λ m. IsOnCanvas w h m) (sym (none_meet_w a b e)) nowhere_lies
-    go true false e f = subst (λ m. IsOnCanvas w h m) (sym (none_meet_h a b e f)) nowhere_lies
-    go true true e f = subst (λ m. IsOnCanvas w h m) (sym (meet_of a b e f)) (record {
-      left = omega (arith, ints, clamps, lies.left);
-      top = omega (arith, ints, clamps, lies.top);
-      width = omega (arith, ints, clamps);
-      height = omega (arith, ints, clamps);
-      right = omega (arith, ints, clamps, lies.right, e);
-      bottom = omega (arith, ints, clamps, lies.bottom, f);
-    })
+right_of : (a b : Bool) → (a && b) ≡ true → b ≡ true
+right_of true b e = e
+right_of false b e = cc
 
-  cut_lies : (area : Area) (u : Object) → IsOnCanvas w h area → IsOnCanvas w h (cut area u)
-  cut_lies area u lies = go (is_smart u) where
-    go : (smart : Bool) → IsOnCanvas w h (if smart then area else meet area u.rect)
-    go true = lies
-    go false = meet_lies area u.rect lies
+not_true : (b : Bool) → not b ≡ true → b ≡ false
+not_true true e = cc
+not_true false e = refl
 
-  all_cut : (us : List Object) (area : Area) → IsOnCanvas w h area → IsOnCanvas w h (fold cut area us)
-  all_cut [] area lies = lies
-  all_cut (u ∷ us) area lies = all_cut us (cut area u) (cut_lies area u lies)
+wide : (a : Area) → has_pixels a ≡ true → pos 0 <ℤ a.w
+wide a some = let e = left_of (int_lt (pos 0) a.w) (int_lt (pos 0) a.h) some in omega (arith, ints, e)
 
-abbrev lies_on : Stage → Look → Type 0
-lies_on s l = IsOnCanvas s.w s.h l.area
+high : (a : Area) → has_pixels a ≡ true → pos 0 <ℤ a.h
+high a some = let e = right_of (int_lt (pos 0) a.w) (int_lt (pos 0) a.h) some in omega (arith, ints, e)
 
-clip_lies : (s : Stage) (o : Object) → IsOnCanvas s.w s.h (clip s o)
-clip_lies s o = all_cut s.w s.h (up s.objects o) (canvas s) (record { left = omega (arith, ints); top = omega (arith, ints); width = omega (arith, ints); height = omega (arith, ints); right = omega (arith, ints); bottom = omega (arith, ints) })
+has_both : (a : Area) → pos 0 <ℤ a.w → pos 0 <ℤ a.h → has_pixels a ≡ true
+has_both a w_some h_some =
+    let w : int_lt (pos 0) a.w ≡ true = grind (arith, ints) in
+    let h : int_lt (pos 0) a.h ≡ true = grind (arith, ints) in
+    ap₂ ◌&&◌ w h
 
-looks_lie : (s : Stage) (objects : List Object) → AllByRecursion (lies_on s) (filter_map (look s) objects)
-looks_lie s [] = tt
-looks_lie s (o ∷ objects) = go (is_drawn s o && has_pixels (clip s o)) (looks_lie s objects) where
-  go : (seen : Bool) → AllByRecursion (lies_on s) (filter_map (look s) objects)
-      → AllByRecursion (lies_on s) (cons_option (if seen then Some (record { id = o.id; area = clip s o; color = colour s o; object = o }) else None) (filter_map (look s) objects))
-  go true rest = (clip_lies s o, rest)
-  go false rest = rest
+-- an area in which another one lies, and which has pixels
+record Holds (outer area : Area) : Type 0 where
+  inside : IsInside outer area
+  some : has_pixels outer ≡ true
 
-unmapped : (s : Stage) (records : List Record) → AllByRecursion (lies_on s) (map look_of records) → AllByRecursion (λ r. IsOnCanvas s.w s.h r.area) records
+inside_itself : (a : Area) → IsInside a a
+inside_itself a = record { left = omega (arith, ints); top = omega (arith, ints); right = omega (arith, ints); bottom = omega (arith, ints) }
+
+inside_twice : (a b c : Area) → IsInside a b → IsInside b c → IsInside a c
+inside_twice a b c one other = record {
+  left = omega (arith, ints, one.left, other.left);
+  top = omega (arith, ints, one.top, other.top);
+  right = omega (arith, ints, one.right, other.right);
+  bottom = omega (arith, ints, one.bottom, other.bottom);
+}
+
+-- what two rectangles have in common lies in both of them
+meet_inside : (a b : Area) → has_pixels (meet a b) ≡ true → Holds a (meet a b) × IsInside b (meet a b)
+meet_inside a b = go (int_lt (pos 0) (common a.x a.w b.x b.w)) (int_lt (pos 0) (common a.y a.h b.y b.h)) refl refl where
+  go : (p q : Bool) → int_lt (pos 0) (common a.x a.w b.x b.w) ≡ p → int_lt (pos 0) (common a.y a.h b.y b.h) ≡ q → has_pixels (meet a b) ≡ true → Holds a (meet a b) × IsInside b (meet a b)
+  go false q e f some = absurd (omega (arith, ints, wide (meet a b) some, ap (λ m. m.w) (none_meet_w a b e)))
+  go true false e f some = absurd (omega (arith, ints, wide (meet a b) some, ap (λ m. m.w) (none_meet_h a b e f)))
+  go true true e f some = subst (λ m. Holds a m × IsInside b m) (sym (meet_of a b e f)) (
+    record {
+      inside = record {
+        left = omega (arith, ints, clamps);
+        top = omega (arith, ints, clamps);
+        right = omega (arith, ints, clamps, e);
+        bottom = omega (arith, ints, clamps, f);
+      };
+      some = has_both a (omega (arith, ints, clamps, e)) (omega (arith, ints, clamps, f));
+    },
+    record {
+      left = omega (arith, ints, clamps);
+      top = omega (arith, ints, clamps);
+      right = omega (arith, ints, clamps, e);
+      bottom = omega (arith, ints, clamps, f);
+    },
+  )
+
+cut_inside : (area : Area) (u : Object) → has_pixels (cut area u) ≡ true → Holds area (cut area u)
+cut_inside area u = go (is_smart u) where
+  go : (smart : Bool) → has_pixels (if smart then area else meet area u.rect) ≡ true → Holds area (if smart then area else meet area u.rect)
+  go true some = record { inside = inside_itself area; some = some }
+  go false some = (meet_inside area u.rect some).0
+
+all_inside : (us : List Object) (area : Area) → has_pixels (fold cut area us) ≡ true → Holds area (fold cut area us)
+all_inside [] area some = record { inside = inside_itself area; some = some }
+all_inside (u ∷ us) area some =
+    let rest = all_inside us (cut area u) some in
+    let first = cut_inside area u rest.some in
+    record { inside = inside_twice area (cut area u) (fold cut area (u ∷ us)) first.inside rest.inside; some = first.some }
+
+-- what is seen of an object
+look_on : (s : Stage) (o : Object) → IsObject o → (is_drawn s o && has_pixels (clip s o)) ≡ true → IsLookOn s.w s.h (record { id = o.id; area = clip s o; color = colour s o; object = o })
+look_on s o limits seen =
+    let drawn = left_of (is_drawn s o) (has_pixels (clip s o)) seen in
+    let some = right_of (is_drawn s o) (has_pixels (clip s o)) seen in
+    let plain : is_smart o ≡ false = not_true (is_smart o) (left_of (not (is_smart o)) (not (clips s o)) (left_of (not (is_smart o) && not (clips s o)) (is_shown s o) drawn)) in
+    let first : cut (canvas s) o ≡ meet (canvas s) o.rect = rw plain refl in
+    let rest : Holds (meet (canvas s) o.rect) (clip s o) = subst (λ area. Holds area (clip s o)) first (all_inside (over_it s.objects o) (cut (canvas s) o) some) in
+    let both = meet_inside (canvas s) o.rect rest.some in
+    record {
+      wide = wide (clip s o) some;
+      high = high (clip s o) some;
+      canvas = inside_twice (canvas s) (meet (canvas s) o.rect) (clip s o) both.0.inside rest.inside;
+      rect = inside_twice o.rect (meet (canvas s) o.rect) (clip s o) both.1 rest.inside;
+      limits = limits;
+    }
+
+looks_on : (s : Stage) (objects : List Object) → AllByRecursion IsObject objects → AllByRecursion (IsLookOn s.w s.h) (filter_map (look s) objects)
+looks_on s [] limits = tt
+looks_on s (o ∷ objects) limits = go (is_drawn s o && has_pixels (clip s o)) refl (looks_on s objects limits.1) where
+  go : (seen : Bool) → (is_drawn s o && has_pixels (clip s o)) ≡ seen → AllByRecursion (IsLookOn s.w s.h) (filter_map (look s) objects)
+      → AllByRecursion (IsLookOn s.w s.h) (cons_option (if seen then Some (record { id = o.id; area = clip s o; color = colour s o; object = o }) else None) (filter_map (look s) objects))
+  go true is rest = (look_on s o limits.0 is, rest)
+  go false is rest = rest
+
+unmapped : (s : Stage) (records : List Record) → AllByRecursion (IsLookOn s.w s.h) (map look_of records) → AllByRecursion (λ r. IsLookOn s.w s.h (look_of r)) records
 unmapped s [] all = tt
 unmapped s (r ∷ records) all = (all.0, unmapped s records all.1)
 
-pub records_lie : (s : Stage) (records : List Record) → map look_of records ≡ looks s → All (λ r. IsOnCanvas s.w s.h r.area) records
-records_lie s records e = All-from_recursion (λ r. IsOnCanvas s.w s.h r.area) records (unmapped s records (subst (λ ls. AllByRecursion (lies_on s) ls) (sym e) (looks_lie s s.objects)))
+pub records_on : (s : Stage) (records : List Record) → All IsObject s.objects → map look_of records ≡ looks s → All (λ r. IsLookOn s.w s.h (look_of r)) records
+records_on s records limits e =
+    All-from_recursion (λ r. IsLookOn s.w s.h (look_of r)) records (unmapped s records
+    (subst (λ ls. AllByRecursion (IsLookOn s.w s.h) ls) (sym e) (looks_on s s.objects (recursion_from_All IsObject s.objects limits))))
+
+looks_hold_by : (P : Object → Type 0) (s : Stage) (objects : List Object) → AllByRecursion P objects → AllByRecursion (λ l. P l.object) (filter_map (look s) objects)
+looks_hold_by P s [] all = tt
+looks_hold_by P s (o ∷ objects) all = go (is_drawn s o && has_pixels (clip s o)) (looks_hold_by P s objects all.1) where
+  go : (seen : Bool) → AllByRecursion (λ l. P l.object) (filter_map (look s) objects)
+      → AllByRecursion (λ l. P l.object) (cons_option (if seen then Some (record { id = o.id; area = clip s o; color = colour s o; object = o }) else None) (filter_map (look s) objects))
+  go true rest = (all.0, rest)
+  go false rest = rest
+
+-- what holds of all objects holds of those that are seen
+pub looks_hold : (P : Object → Type 0) (s : Stage) → All P s.objects → All (λ l. P l.object) (looks s)
+looks_hold P s all = All-from_recursion (λ l. P l.object) (looks s) (looks_hold_by P s s.objects (recursion_from_All P s.objects all))

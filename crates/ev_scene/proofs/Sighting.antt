@@ -1,5 +1,8 @@
 -- The way up of an object, and what its objects leave to those below.
-use Rattle.std.proofs.Common.{◌≡◌, ℕ, zero, suc, ◌+◌, ◌<◌, Bool, true, false, ◌&&◌, ◌==◌, nat_eq, All, if◌then◌else◌, List, [], ◌∷◌, ◌++◌, length, fold, get_or, Option, Some, None, refl, sym, ap, ap₂, ◌∙◌, subst, inl, inr, arith}
+use Rattle.std.proofs.Common.{◌≡◌, ◌⊎◌, ◌↔◌, ℕ, zero, suc, ◌+◌, ◌<◌, ℤ, pos, ◌≤ℤ◌, int_lt, Bool, true, false, ◌&&◌, ◌==◌, nat_eq, All, if◌then◌else◌, List, [], ◌∷◌, ◌++◌, length, fold, get_or, Option, Some, None, refl, sym, ap, ap₂, ◌∙◌, subst, inl, inr, arith}
+use Rattle.std.proofs.Math.Bool.{true≢false}
+use Rattle.std.proofs.lemmas.Int.{ints}
+use Rattle.std.specs.Prelude.{IsTrue}
 use Rattle.std.specs.List.{list_all}
 use Rattle.std.specs.Option.{option_and_then}
 use Rattle.std.specs.HashMap.{HashMap}
@@ -14,7 +17,8 @@ use Rattle.ev_model.specs.Chain.{chain, ends}
 use Rattle.ev_model.specs.Stage.{Stage, values, canvas}
 use Rattle.ev_model.specs.Up.{with_id, next, over_it, cut, is_smart, clips, clip, colour, is_drawn}
 use Rattle.ev_model.specs.Look.{Look, has_pixels, look}
-use Rattle.ev_model.proofs.Walking.{chain_whole}
+use Rattle.ev_model.proofs.Chains.{chain_whole}
+use Rattle.ev_model.proofs.Meets.{meet_sides}
 use Rattle.ev_model.specs.declared.object.Object.{Object}
 use Rattle.ev_scene.specs.declared.sights.Sight.{Sight}
 use Rattle.ev_scene.specs.Sights.{over, way, Ends, tinted, is_white, IsColor, TintsAs, IsSight, bare, lowered, AreSights, IsStep, Leads, IsClimbed}
@@ -212,6 +216,29 @@ module _ (objects : List Object) (at at' : Option ℕ) (id : ℕ) (u : Object) (
 
 pub climb_known : (s : Stage) (first : Option ℕ) (ids : List ℕ) (at : Option ℕ) (id : ℕ) (sight : Sight) → at ≡ Some id → Leads s.objects first ids at → IsSight s (Some id) sight → IsClimbed s first ids sight
 climb_known s first ids at id sight is leads known = let P : Option ℕ → Type 0 = λ at. Leads s.objects first ids at in record { at = Some id; leads = subst P is leads; known = known }
+
+positive : (n : ℤ) → pos 0 ≤ℤ n → (n ≡ pos 0 → ⊥) → int_lt (pos 0) n ≡ true
+positive n low none = go (int_lt (pos 0) n) refl where
+  go : (t : Bool) → int_lt (pos 0) n ≡ t → t ≡ true
+  go true e = refl
+  go false e = absurd (none (omega (arith, ints, low, e)))
+
+-- what two rectangles have in common has pixels where it isn't empty, and else none
+pub some_left : (a b m : Area) (t : Bool) → m ≡ meet a b → (IsTrue t ↔ ((m.w ≡ pos 0) ⊎ (m.h ≡ pos 0))) → t ≡ false → has_pixels m ≡ true
+some_left a b m t e is f =
+    let sides = subst (λ m. (pos 0 ≤ℤ m.w) × (pos 0 ≤ℤ m.h)) (sym e) (meet_sides a b) in
+    let never : (m.w ≡ pos 0) ⊎ (m.h ≡ pos 0) → ⊥ = λ none. true≢false (sym (is.1 none) ∙ f) in
+    ap₂ ◌&&◌ (positive m.w sides.0 (λ z. never (inl z))) (positive m.h sides.1 (λ z. never (inr z)))
+
+pub none_left : (a b m : Area) (t : Bool) → m ≡ meet a b → (IsTrue t ↔ ((m.w ≡ pos 0) ⊎ (m.h ≡ pos 0))) → t ≡ true → has_pixels m ≡ false
+none_left a b m t e is f = go (is.0 f) where
+  none : (b : Bool) → (b && false) ≡ false
+  none true = refl
+  none false = refl
+
+  go : (m.w ≡ pos 0) ⊎ (m.h ≡ pos 0) → has_pixels m ≡ false
+  go (inl z) = let w : int_lt (pos 0) m.w ≡ false = grind (arith, ints) in ap (λ t. t && int_lt (pos 0) m.h) w
+  go (inr z) = let h : int_lt (pos 0) m.h ≡ false = grind (arith, ints) in ap (λ t. int_lt (pos 0) m.w && t) h ∙ none (int_lt (pos 0) m.w)
 
 -- what is seen of an object that is not smart and clips nobody, by the sight from what is over it on
 module _ (s : Stage) (o : Object) (at : Option ℕ) (sight : Sight) (area : Area) (plain : is_smart o ≡ false) (clips_none : clips s o ≡ false) (over_is : at ≡ over o) (is_at : IsSight s at sight) (meets : area ≡ meet sight.area o.rect) where

@@ -15,7 +15,7 @@ use Rattle.ev_links.proofs.Whole.{walk_whole}
 use Rattle.ev_model.specs.Captured.{IsLinked}
 use Rattle.ev_model.specs.Chain.{chain, ends}
 use Rattle.ev_model.specs.Up.{with_id, next, over_it, up}
-use Rattle.ev_model.proofs.Walking.{chain_whole}
+use Rattle.ev_model.proofs.Chains.{chain_whole}
 use Rattle.ev_model.specs.declared.object.Object.{Object}
 use Rattle.ev_scene.specs.Ties.{tie_of, within}
 

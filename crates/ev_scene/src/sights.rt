@@ -3,9 +3,9 @@
 ghost use Rattle.std.specs.Prelude.{◌≡◌, ◌≤◌, ℕ, ◌++◌, IsTrue, IfOk, OnOk, All, map, length, option_copied, option_map, option_to_list, []};
 ghost use Rattle.std.specs.List.{list_any};
 ghost use Rattle.ev_model.specs.Chain.{ends};
-ghost use Rattle.ev_model.specs.Look.{look_of, has_pixels, look, looks};
+ghost use Rattle.ev_model.specs.Look.{look_of, look, looks};
 ghost use Rattle.ev_model.specs.Stage.{values};
-ghost use Rattle.ev_model.specs.Up.{with_id, next, cut, is_smart, is_clipped_by};
+ghost use Rattle.ev_model.specs.Up.{with_id, next, cut, is_clipped_by};
 ghost use Rattle.ev_scene.specs.Slots.{of_id};
 ghost use Rattle.ev_scene.specs.Board.{values_of};
 ghost use Rattle.ev_scene.specs.Sights.{over, way, Ends, tinted, is_white, IsColor, TintsAs, IsSight, bare, lowered, AreSights, IsClimbed, AreClippers, stage_on, IsGround, look_as};
@@ -14,7 +14,7 @@ use crate::NoMemory;
 use crate::roll::Roll;
 use ev_argb::{Pixel, tint};
 use ev_geom::Rect;
-use ev_model::{Content, Object, Objects, Record};
+use ev_model::{Object, Objects, Record};
 use ev_state::Shared;
 use std::alloc::Global;
 use std::collections::{HashMap, HashSet};
@@ -127,12 +127,12 @@ fn look(
     ensures look { IfOk result (λ seen. option_map (look_as object.now) seen ≡ look (stage_on ground.now) object.now) }
     ensures known { OnOk result (AreSights (stage_on ground.now) known.new) }
 {
-    if is_smart(object) || ground.clips(object.id) {
+    if object.is_smart() || ground.clips(object.id) {
         return Ok(None);
     }
     let sight = sight_from(ground, known, object.clipper.or(object.parent))?;
     let area = sight.area.meet(&object.rect);
-    if object.shown && sight.shown && has_pixels(&area) {
+    if object.shown && sight.shown && !area.is_empty() {
         let color = tinted(ground, known, object.color, sight.tinted);
         Ok(Some(Seen { area, color }))
     } else {
@@ -208,7 +208,7 @@ fn lowered(sight: &Sight, id: u64, object: &Object) -> Sight
 fn cut(area: &Rect, u: &Object) -> Rect
     ensures { result ≡ cut area.now u.now }
 {
-    if is_smart(u) {
+    if u.is_smart() {
         *area
     } else {
         area.meet(&u.rect)
@@ -265,18 +265,6 @@ fn is_white(color: Pixel) -> bool
     ensures { result ≡ is_white color }
 {
     color.a() == 255 && color.r() == 255 && color.g() == 255 && color.b() == 255
-}
-
-fn is_smart(object: &Object) -> bool
-    ensures { result ≡ is_smart object.now }
-{
-    matches!(object.content, Content::Smart)
-}
-
-fn has_pixels(area: &Rect) -> bool
-    ensures { result ≡ has_pixels area.now }
-{
-    0 < area.w() && 0 < area.h()
 }
 
 impl Ground<'_> {

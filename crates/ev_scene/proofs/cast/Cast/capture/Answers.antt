@@ -12,7 +12,7 @@ use Rattle.ev_scene.specs.Slots.{of_id}
 use Rattle.ev_scene.specs.Board.{values_of, ids_in}
 use Rattle.ev_scene.specs.Cast.{board_of}
 use Rattle.ev_scene.specs.Sound.{IsSound}
-use Rattle.ev_scene.proofs.Bounding.{records_lie}
+use Rattle.ev_scene.proofs.Bounding.{records_on}
 use Rattle.ev_scene.proofs.Capturing.{are_objects, holds_in_order}
 use Rattle.ev_scene.proofs.Differing.{looks_differ}
 use Rattle.ev_scene.proofs.Trees.{order_found, ways, all_orders, order_once, sound_stage}
@@ -33,6 +33,8 @@ invariant_of-result c =
     let P : List Object → Type 0 = λ objects. All IsObject objects in
     let Q : List Object → Type 0 = λ objects. IsDistinct (ids objects) in
     let R : List Object → Type 0 = λ objects. IsSound (record { w = c.args.self.now.w; h = c.args.self.now.h; objects = objects }) in
+    let limits : All IsObject (values c.in_ok-objects.objects) =
+    subst P (sym (c.in_ok-objects.ensures).objects) (holds_in_order IsObject (values_of c.args.self.now.roll.states) (ids_in (board_of c.args.self.now) None) c.requires.limits) in
     let orders = (c.in_ok-objects.ensures).orders in
     let seen : Stage = record { w = c.args.self.now.w; h = c.args.self.now.h; objects = values c.in_ok-objects.objects } in
     let all : (at : ℕ) → IsOrder (get_or c.args.self.now.groups at []) =
@@ -45,11 +47,11 @@ invariant_of-result c =
       w_high = c.requires.w_high;
       h_low = c.requires.h_low;
       h_high = c.requires.h_high;
-      objects = are_objects c.in_ok-objects.objects (subst P (sym (c.in_ok-objects.ensures).objects) (holds_in_order IsObject (values_of c.args.self.now.roll.states) (ids_in (board_of c.args.self.now) None) c.requires.limits));
+      objects = are_objects c.in_ok-objects.objects limits;
       sound =
           subst R (sym (c.in_ok-objects.ensures).objects)
           (sound_stage c.requires c.len-ties.ensures.sound all);
       looks = (c.in_ok-records.ensures);
       apart = subst (λ looks. AllPairs (λ a b. a ≢ b) (map (λ l. l.id) looks)) (sym c.in_ok-records.ensures) (looks_differ seen once);
-      areas = records_lie seen _ c.in_ok-records.ensures;
+      on_canvas = records_on seen _ limits c.in_ok-records.ensures;
     }
