@@ -1,5 +1,7 @@
 pub mod Regions
 pub mod Owing
+mod Drawing
+pub mod Starting
 pub mod Adding
 pub mod Loading
 pub mod Sweeping

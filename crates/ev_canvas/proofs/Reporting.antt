@@ -3,25 +3,24 @@ use Rattle.std.proofs.Common.{◌≡◌, ◌≢◌, ℕ, ◌+◌, ◌*◌, ◌<�
 use Rattle.std.proofs.Math.Bool.{true≢false}
 use Rattle.std.proofs.lemmas.Bool.Decides.{nat_tests}
 use Rattle.std.proofs.lemmas.Int.{ints}
-use Rattle.std.specs.List.{AllPairs}
 use Rattle.ev_argb.specs.Argb.{Argb}
 use Rattle.ev_geom.specs.Area.{Area, holds}
 use Rattle.ev_geom.specs.Bands.{has_pixel}
 use Rattle.ev_geom.specs.Snap.{SharesCell}
-use Rattle.ev_model.specs.Order.{ids}
-use Rattle.ev_model.specs.Stage.{Stage, canvas}
-use Rattle.ev_model.specs.Look.{looks}
+use Rattle.ev_model.specs.Capture.{Capture}
+use Rattle.ev_model.specs.Stage.{canvas_on}
 use Rattle.ev_model.specs.Paint.{paint}
 use Rattle.ev_damage.specs.Damage.{is_damaged}
+use Rattle.ev_damage.specs.Places.{HaveOwnIds}
 use Rattle.ev_damage.specs.Stay.{HaveOneLoad}
 use Rattle.ev_damage.proofs.Painting.{still}
-use Rattle.ev_canvas.specs.Starts.{Entry, Latest, Starts, Owes, OwesIf, OwesOn, left, is_lost, has_size_of, touched}
-use Rattle.ev_canvas.specs.Chain.{newest_of, is_running, is_shown, AreStarts, AreComparable, Showing, frame_pixel, IsShowing, ShowsLast, Shows, Reports, AreReportedAfter, AreReported}
+use Rattle.ev_canvas.specs.Starts.{Entry, Latest, Starts, Owes, OwesIf, OwesOn, left, is_running, is_shown, is_lost, has_size_of, touched}
+use Rattle.ev_canvas.specs.Chain.{newest_of, AreStarts, AreComparable, Showing, frame_pixel, IsShowing, ShowsLast, Shows, Reports, AreReportedAfter, AreReported}
 use Rattle.ev_canvas.specs.declared.newest.End.{End}
 use Rattle.ev_canvas.specs.declared.newest.End.TheVariants as end
 
 -- a pixel of a canvas lies on it
-on_canvas : (s : Stage) (x y : ℕ) → x < s.w → y < s.h → holds (canvas s) (pos x) (pos y) ≡ true
+on_canvas : (s : Capture) (x y : ℕ) → x < s.w → y < s.h → holds (canvas_on s.w s.h) (pos x) (pos y) ≡ true
 on_canvas s x y column row = grind (arith, ints)
 
 -- of two tests that both fail
@@ -57,33 +56,33 @@ settled latest x y ended = by latest.end ended refl
     by end.Lost ended is = rw is refl
 
 -- where the canvas has the size of the scene before, and a pixel isn't owed, the scene is painted there as before, and the frame before did not leave it
-pub record IsSettled (before : Latest) (now : Stage) (x y : ℕ) : Type 0 where
-  pub width : before.entry.stage.w ≡ now.w
-  pub height : before.entry.stage.h ≡ now.h
+pub record IsSettled (before : Latest) (now : Capture) (x y : ℕ) : Type 0 where
+  pub width : before.entry.capture.w ≡ now.w
+  pub height : before.entry.capture.h ≡ now.h
   pub unleft : left before (pos x) (pos y) ≡ false
-  pub same : paint before.entry.stage x y ≡ paint now x y
+  pub same : paint before.entry.capture x y ≡ paint now x y
 
 -- a pixel that lies in none of the cells that were touched wasn't touched
-untouched : (cell : ℕ) (before now : Stage) (given cells : List Area) (x y : ℕ) → x < now.w → y < now.h → ((x y : ℕ) → x < now.w → y < now.h → SharesCell cell (touched before now given) x y → has_pixel cells (pos x) (pos y) ≡ true) → has_pixel cells (pos x) (pos y) ≡ false → touched before now given (pos x) (pos y) ≡ false
+untouched : (cell : ℕ) (before now : Capture) (given cells : List Area) (x y : ℕ) → x < now.w → y < now.h → ((x y : ℕ) → x < now.w → y < now.h → SharesCell cell (touched before now given) x y → has_pixel cells (pos x) (pos y) ≡ true) → has_pixel cells (pos x) (pos y) ≡ false → touched before now given (pos x) (pos y) ≡ false
 untouched cell before now given cells x y column row whole outside =
     never_passes (touched before now given (pos x) (pos y)) (λ held. true≢false (sym (whole x y column row (record { column = x; row = y; held = held; across = refl; down = refl })) ∙ outside))
 
-unowed_on : (cell : ℕ) (before : Latest) (now : Stage) (given owed : List Area) (x y : ℕ) → x < now.w → y < now.h → AllPairs (λ i j. i ≢ j) (ids before.entry.stage.objects) → AllPairs (λ i j. i ≢ j) (ids now.objects) → HaveOneLoad before.entry.stage.objects now.objects → before.entry.stage.w ≡ now.w → before.entry.stage.h ≡ now.h → OwesOn cell before now given owed → has_pixel owed (pos x) (pos y) ≡ false → IsSettled before now x y
+unowed_on : (cell : ℕ) (before : Latest) (now : Capture) (given owed : List Area) (x y : ℕ) → x < now.w → y < now.h → HaveOwnIds before.entry.capture.looks → HaveOwnIds now.looks → HaveOneLoad before.entry.capture.looks now.looks → before.entry.capture.w ≡ now.w → before.entry.capture.h ≡ now.h → OwesOn cell before now given owed → has_pixel owed (pos x) (pos y) ≡ false → IsSettled before now x y
 unowed_on cell before now given owed x y column row own_before own_now loads width height owes unowed =
     let none = sym (owes.pixels.pixels (pos x) (pos y)) ∙ unowed in
     let uncelled = left_fails (has_pixel owes.cells (pos x) (pos y)) (left before (pos x) (pos y)) none in
-    let untouched_here = untouched cell before.entry.stage now given owes.cells x y column row owes.snapped.whole uncelled in
-    let changed = is_damaged (looks before.entry.stage) (looks now) (pos x) (pos y) in
-    let undamaged = left_fails changed (has_pixel given (pos x) (pos y)) (front_fails (changed || has_pixel given (pos x) (pos y)) (holds (canvas now) (pos x) (pos y)) untouched_here (on_canvas now x y column row)) in
+    let untouched_here = untouched cell before.entry.capture now given owes.cells x y column row owes.snapped.whole uncelled in
+    let changed = is_damaged before.entry.capture.looks now.looks (pos x) (pos y) in
+    let undamaged = left_fails changed (has_pixel given (pos x) (pos y)) (front_fails (changed || has_pixel given (pos x) (pos y)) (holds (canvas_on now.w now.h) (pos x) (pos y)) untouched_here (on_canvas now x y column row)) in
     record {
       width = width;
       height = height;
       unleft = right_fails (has_pixel owes.cells (pos x) (pos y)) (left before (pos x) (pos y)) none;
-      same = (still before.entry.stage now x y own_before own_now loads undamaged).pixel;
+      same = (still before.entry.capture now x y own_before own_now loads undamaged).pixel;
     }
 
 -- all of a canvas is owed where its size is another
-unowed_if : (b : Bool) (cell : ℕ) (before : Latest) (now : Stage) (given owed : List Area) (x y : ℕ) → has_size_of before.entry.stage now ≡ b → x < now.w → y < now.h → AllPairs (λ i j. i ≢ j) (ids before.entry.stage.objects) → AllPairs (λ i j. i ≢ j) (ids now.objects) → HaveOneLoad before.entry.stage.objects now.objects → OwesIf b cell before now given owed → has_pixel owed (pos x) (pos y) ≡ false → IsSettled before now x y
+unowed_if : (b : Bool) (cell : ℕ) (before : Latest) (now : Capture) (given owed : List Area) (x y : ℕ) → has_size_of before.entry.capture now ≡ b → x < now.w → y < now.h → HaveOwnIds before.entry.capture.looks → HaveOwnIds now.looks → HaveOneLoad before.entry.capture.looks now.looks → OwesIf b cell before now given owed → has_pixel owed (pos x) (pos y) ≡ false → IsSettled before now x y
 unowed_if true cell before now given owed x y same column row own_before own_now loads owes unowed =
     unowed_on cell before now given owed x y column row own_before own_now loads (grind (arith, nat_tests, same)) (grind (arith, nat_tests, same)) owes unowed
 unowed_if false cell before now given owed x y same column row own_before own_now loads owes unowed =
@@ -91,8 +90,8 @@ unowed_if false cell before now given owed x y same column row own_before own_no
 
 -- where the frame shown last has the size of the newest start, it shows each settled pixel as that start's scene is painted
 abbrev IsCurrent : Showing → Latest → Type 0
-IsCurrent showing latest = showing.frame.w ≡ latest.entry.stage.w → showing.frame.h ≡ latest.entry.stage.h
-    → (x y : ℕ) → x < latest.entry.stage.w → y < latest.entry.stage.h → unsettled latest x y ≡ false → frame_pixel showing.frame x y ≡ paint latest.entry.stage x y
+IsCurrent showing latest = showing.frame.w ≡ latest.entry.capture.w → showing.frame.h ≡ latest.entry.capture.h
+    → (x y : ℕ) → x < latest.entry.capture.w → y < latest.entry.capture.h → unsettled latest x y ≡ false → frame_pixel showing.frame x y ≡ paint latest.entry.capture x y
 
 abbrev last_of : List Showing → Option Showing
 last_of [] = None
@@ -103,11 +102,11 @@ abbrev AreCurrent : List Latest → List Showing → Type 0
 AreCurrent starts showings = IfSome (last_of showings) (λ showing. IfSome (newest_of starts) (λ latest. IsCurrent showing latest))
 
 -- what the frame shown last shows where nothing is owed
-shows_still : (cell : ℕ) (latest : Latest) (older : List Latest) (given areas : List Area) (showings : List Showing) (showing : Showing) → Starts cell (newest_of older) latest.entry.stage given areas latest.entry → IfSome (newest_of older) (λ before. is_running before.end ≡ false) → AllPairs (λ i j. i ≢ j) (ids latest.entry.stage.objects) → IfSome (newest_of older) (λ before. HaveOneLoad before.entry.stage.objects latest.entry.stage.objects) → AreComparable older → AreCurrent older showings → last_of showings ≡ Some showing → (Shows older showings) → showing.frame.w ≡ latest.entry.stage.w → showing.frame.h ≡ latest.entry.stage.h → (x y : ℕ) → x < latest.entry.stage.w → y < latest.entry.stage.h → has_pixel latest.entry.owed (pos x) (pos y) ≡ false → frame_pixel showing.frame x y ≡ paint latest.entry.stage x y
+shows_still : (cell : ℕ) (latest : Latest) (older : List Latest) (given areas : List Area) (showings : List Showing) (showing : Showing) → Starts cell (newest_of older) latest.entry.capture given areas latest.entry → IfSome (newest_of older) (λ before. is_running before.end ≡ false) → HaveOwnIds latest.entry.capture.looks → IfSome (newest_of older) (λ before. HaveOneLoad before.entry.capture.looks latest.entry.capture.looks) → AreComparable older → AreCurrent older showings → last_of showings ≡ Some showing → (Shows older showings) → showing.frame.w ≡ latest.entry.capture.w → showing.frame.h ≡ latest.entry.capture.h → (x y : ℕ) → x < latest.entry.capture.w → y < latest.entry.capture.h → has_pixel latest.entry.owed (pos x) (pos y) ≡ false → frame_pixel showing.frame x y ≡ paint latest.entry.capture x y
 shows_still cell latest [] given areas showings showing starts ended own loads comparable current is shows width height x y column row unowed =
-    absurd (true≢false (sym (on_canvas latest.entry.stage x y column row) ∙ sym (starts.owed.pixels (pos x) (pos y)) ∙ unowed))
+    absurd (true≢false (sym (on_canvas latest.entry.capture x y column row) ∙ sym (starts.owed.pixels (pos x) (pos y)) ∙ unowed))
 shows_still cell latest (before ∷ older) given areas showings showing starts ended own loads comparable current is shows width height x y column row unowed =
-    let settled_here = unowed_if (has_size_of before.entry.stage latest.entry.stage) cell before latest.entry.stage given latest.entry.owed x y refl column row comparable.0 own loads starts.owed unowed in
+    let settled_here = unowed_if (has_size_of before.entry.capture latest.entry.capture) cell before latest.entry.capture given latest.entry.owed x y refl column row comparable.0 own loads starts.owed unowed in
     let kept : IsCurrent showing before = subst (λ o. IfSome o (λ s. IsCurrent s before)) is current in
     kept (width ∙ sym settled_here.width) (height ∙ sym settled_here.height) x y (omega (arith, column, settled_here.width)) (omega (arith, row, settled_here.height)) (sym (settled before x y ended) ∙ settled_here.unleft) ∙ settled_here.same
 
@@ -130,7 +129,7 @@ current : (cell : ℕ) (starts : List Latest) (showings : List Showing) → AreS
 current cell [] showings chain comparable shows = if_some (last_of showings) (λ showing. Unit {0}) (λ s is. tt)
 current cell (latest ∷ older) showings (given, areas, starts, ended, chain) (own, loads, comparable) shows = by (is_shown latest.end) refl shows (λ earlier. current cell older earlier chain comparable)
   where
-    by : (b : Bool) → is_shown latest.end ≡ b → ShowsLast b latest.entry (length older + 1) (Shows older) showings → ((earlier : List Showing) → Shows older earlier → AreCurrent older earlier) → AreCurrent (latest ∷ older) showings
+    by : (b : Bool) → is_shown latest.end ≡ b → ShowsLast b latest.entry (Shows older) showings → ((earlier : List Showing) → Shows older earlier → AreCurrent older earlier) → AreCurrent (latest ∷ older) showings
     by true shown (earlier, last, before, showing, is) earlier_is =
         let here : IsCurrent last latest = λ width height x y column row none. showing.pixels x y column row (right_fails (not (is_shown latest.end) && has_pixel latest.entry.owed (pos x) (pos y)) (has_pixel latest.entry.hidden (pos x) (pos y)) none) in
         subst (λ list. AreCurrent (latest ∷ older) list) (sym is) (subst (λ o. IfSome o (λ s. IsCurrent s latest)) (sym (last_more earlier last)) here)
@@ -149,7 +148,7 @@ reported_on [] last reported reports = tt
 reported_on (first ∷ earlier) last reported reports = reported_more first earlier last reported reports
 
 -- a pixel that is owed and isn't hidden is updated
-updated : (cell : ℕ) (before : Option Latest) (now : Stage) (given areas : List Area) (entry : Entry) (x y : ℕ) → Starts cell before now given areas entry → has_pixel entry.owed (pos x) (pos y) ≡ true → has_pixel entry.hidden (pos x) (pos y) ≡ false → has_pixel entry.updates (pos x) (pos y) ≡ true
+updated : (cell : ℕ) (before : Option Latest) (now : Capture) (given areas : List Area) (entry : Entry) (x y : ℕ) → Starts cell before now given areas entry → has_pixel entry.owed (pos x) (pos y) ≡ true → has_pixel entry.hidden (pos x) (pos y) ≡ false → has_pixel entry.updates (pos x) (pos y) ≡ true
 updated cell before now given areas entry x y starts owed unhidden = starts.updates.pixels (pos x) (pos y) ∙ rw (owed, unhidden) refl
 
 passes : (b : Bool) → (b ≡ false → ⊥) → b ≡ true
@@ -161,16 +160,16 @@ pub reported : (cell : ℕ) (starts : List Latest) (showings : List Showing) →
 reported cell [] showings chain comparable shows = subst AreReported (sym shows) tt
 reported cell (latest ∷ older) showings (given, areas, starts, ended, chain) (own, loads, comparable) shows = by (is_shown latest.end) shows (λ earlier. reported cell older earlier chain comparable) (λ earlier. current cell older earlier chain comparable)
   where
-    reports : (earlier : List Showing) (f last : Showing) → Shows older earlier → IsShowing latest.entry (length older + 1) last → AreCurrent older earlier → last_of earlier ≡ Some f → Reports f last
+    reports : (earlier : List Showing) (f last : Showing) → Shows older earlier → IsShowing latest.entry last → AreCurrent older earlier → last_of earlier ≡ Some f → Reports f last
     reports earlier f last before showing is_current is width height x y column row unhidden differ =
-        let column_here : x < latest.entry.stage.w = omega (arith, column, showing.width) in
-        let row_here : y < latest.entry.stage.h = omega (arith, row, showing.height) in
+        let column_here : x < latest.entry.capture.w = omega (arith, column, showing.width) in
+        let row_here : y < latest.entry.capture.h = omega (arith, row, showing.height) in
         let unhidden_here : has_pixel latest.entry.hidden (pos x) (pos y) ≡ false = ap (λ areas. has_pixel areas (pos x) (pos y)) (sym showing.hidden) ∙ unhidden in
         let owed : has_pixel latest.entry.owed (pos x) (pos y) ≡ true = passes (has_pixel latest.entry.owed (pos x) (pos y)) (λ unowed.
         differ (shows_still cell latest older given areas earlier f starts ended own loads comparable is_current is before (width ∙ showing.width) (height ∙ showing.height) x y column_here row_here unowed ∙ sym (showing.pixels x y column_here row_here unhidden_here))) in
-        ap (λ areas. has_pixel areas (pos x) (pos y)) showing.updates ∙ updated cell (newest_of older) latest.entry.stage given areas latest.entry x y starts owed unhidden_here
+        ap (λ areas. has_pixel areas (pos x) (pos y)) showing.updates ∙ updated cell (newest_of older) latest.entry.capture given areas latest.entry x y starts owed unhidden_here
 
-    by : (b : Bool) → ShowsLast b latest.entry (length older + 1) (Shows older) showings → ((earlier : List Showing) → Shows older earlier → AreReported earlier) → ((earlier : List Showing) → Shows older earlier → AreCurrent older earlier) → AreReported showings
+    by : (b : Bool) → ShowsLast b latest.entry (Shows older) showings → ((earlier : List Showing) → Shows older earlier → AreReported earlier) → ((earlier : List Showing) → Shows older earlier → AreCurrent older earlier) → AreReported showings
     by true (earlier, last, before, showing, is) earlier_reported earlier_current =
         subst AreReported (sym is) (reported_on earlier last (earlier_reported earlier before) (if_some (last_of earlier) (λ s. Reports s last) (λ f at. reports earlier f last before showing (earlier_current earlier before) at)))
     by false before earlier_reported earlier_current = earlier_reported showings before

@@ -2,9 +2,11 @@ pub mod Starts
 pub mod Frames
 pub mod Events
 pub mod Loading
+pub mod Now
+pub mod Calls
+pub mod Canvas
 pub mod Chain
 pub mod Totals
 pub mod Machine
 pub mod Commands
 pub mod Ledger
-pub mod Canvas

@@ -1,43 +1,59 @@
--- The machine that commands drive: which replies each may have, and the state that it leaves.
-use Rattle.std.specs.Prelude.{◌≡◌, ◌≢◌, ℕ, ℤ, ◌+◌, pos, Bool, ◌⊎◌, List, [], ◌∷◌, ◌++◌, map, length, Option, Some, None, Result, Ok, Err, if◌then◌else◌}
-use Rattle.std.specs.List.{range_with_len, flat_map, AllPairs}
+-- The machine that commands drive: its state, and what one step tells and leaves.
+use Rattle.std.specs.Prelude.{◌≡◌, ℕ, pos, Bool, List, [], ◌∷◌, ◌++◌, map, Option, Some, None, Result, Ok, Err, if◌then◌else◌}
+use Rattle.std.specs.List.{range_with_len, flat_map}
 use Rattle.ev_argb.specs.Argb.{Argb}
-use Rattle.ev_geom.specs.Area.{Area, limited}
 use Rattle.ev_geom.specs.Bands.{has_pixel}
 use Rattle.ev_port.specs.declared.file.StoredFile.{StoredFile}
-use Rattle.ev_model.specs.Answer.{Answer, Shown, Lost, Preloaded, PreloadFailed, DumpRow, Refused}
-use Rattle.ev_model.specs.Order.{ids}
+use Rattle.ev_model.specs.Answer.{Answer, Shown, Lost, DumpRow, Refused}
 use Rattle.ev_model.specs.Paint.{paint}
-use Rattle.ev_model.specs.declared.command.Edit.{Edit}
-use Rattle.ev_model.specs.declared.refusal.LoadFault.{LoadFault}
 use Rattle.ev_model.specs.declared.refusal.Refusal.{Refusal}
-use Rattle.ev_model.specs.declared.refusal.Refusal.TheVariants.{Range, NoFrame, NoMemory}
-use Rattle.ev_scene.specs.Board.{Board, stage_of}
-use Rattle.ev_scene.specs.Edits.{verdict, effect}
-use Rattle.ev_preload.specs.Job.{Job}
+use Rattle.ev_model.specs.declared.refusal.Refusal.TheVariants.{Busy, NoFrame, NoMemory}
 use Rattle.ev_preload.specs.Ends.{EndsBy, IsOfKind}
-use Rattle.ev_preload.specs.Faults.{fault_of}
-use Rattle.ev_preload.specs.Loads.{Loads}
+use Rattle.ev_preload.specs.Job.{Job}
 use Rattle.ev_preload.specs.declared.end.LoadEnd.{LoadEnd}
-use Rattle.ev_canvas.specs.Starts.{Entry, Latest, Starts}
-use Rattle.ev_canvas.specs.Chain.{newest_of}
-use Rattle.ev_canvas.specs.Loading.{asked, taken}
+use Rattle.ev_canvas.specs.Starts.{Entry, Latest, is_running}
+use Rattle.ev_canvas.specs.Frames.{fresh}
+use Rattle.ev_canvas.specs.Events.{told_event}
+use Rattle.ev_canvas.specs.Now.{Now}
+use Rattle.ev_canvas.specs.Calls.{MayStart, MayFlush, MayPreload, MayCollect, held}
 use Rattle.ev_canvas.specs.Totals.{totals}
-use Rattle.ev_canvas.specs.declared.newest.End.{End}
-use Rattle.ev_canvas.specs.declared.newest.End.TheVariants as end
+use Rattle.ev_canvas.specs.declared.canvas.Setup.{Setup}
+use Rattle.ev_canvas.specs.declared.event.Event.{Event}
+use Rattle.ev_canvas.specs.declared.flush.Flushed.{Flushed}
+use Rattle.ev_canvas.specs.declared.flush.Flushed.TheVariants as flushed
+use Rattle.ev_canvas.specs.declared.start.Started.{Started}
+use Rattle.ev_canvas.specs.declared.start.StartErr.{StartErr}
+use Rattle.ev_canvas.specs.declared.start.StartErr.TheVariants as start_err
 
--- What the machine keeps: the scene, the rectangles given since the newest start, the hidden rectangles
--- in force, the starts, the newest first, and how many loads began.
+-- what a script is played on: a canvas set up so, and a store with these files, where it tells them
+pub record Setting : Type 0 where
+  pub setup : Setup
+  pub files : Option (List StoredFile)
+
+-- what the machine keeps: what a canvas keeps now, and the starts before the newest one, the newest of them first
 pub record State : Type 0 where
-  pub scene : Board
-  pub given : List Area
-  pub areas : List Area
-  pub starts : List Latest
-  pub begun : ℕ
+  pub now : Now
+  pub older : List Latest
 
--- a canvas of 320 by 240 without objects
+-- the newest start before some older ones; before it there are none
+abbrev pub starts_from : Option Latest → List Latest → List Latest
+starts_from None older = []
+starts_from (Some latest) older = latest ∷ older
+
+-- all starts, the newest first
+abbrev pub starts_of : State → List Latest
+starts_of state = starts_from state.now.frames.newest state.older
+
+-- before the first line: a canvas of 320 by 240 pixels without objects, and no starts
 abbrev pub opening : State
-opening = record { scene = record { w = 320; h = 240; objects = []; groups = [] ∷ [] }; given = []; areas = []; starts = []; begun = 0 }
+opening = record {
+  now = record {
+    scene = record { w = 320; h = 240; objects = []; groups = [] ∷ [] };
+    frames = fresh;
+    loads = record { running = []; begun = 0 };
+  };
+  older = [];
+}
 
 -- what a command did: its replies, and the state after it
 pub record Turn : Type 0 where
@@ -48,94 +64,102 @@ pub record Turn : Type 0 where
 abbrev pub stays : State → List Answer → Turn
 stays old replies = record { replies = replies; after = old }
 
--- nothing is told
-abbrev pub becomes : State → Turn
-becomes new = record { replies = []; after = new }
+-- a call of the canvas: one of its answers is told, and what it may leave with it stands. No start is made
+pub record Does {R : Type 0} (May : R → Now → Type 0) (told : R → List Answer) (old : State) (turn : Turn) : Type 0 where
+  pub result : R
+  pub call : May result turn.after.now
+  pub tells : turn.replies ≡ told result
+  pub older : turn.after.older ≡ old.older
 
--- the number of the next frame
-abbrev pub next : State → ℕ
-next state = length state.starts + 1
+-- ---- what is told of answers, at line n
 
--- what an edit of line n may do: it is refused where it has a verdict; else it is carried out, or memory was wanting
-abbrev pub Edited : State → ℕ → Edit → Option Refusal → Turn → Type 0
-Edited old n edit (Some cause) turn = turn ≡ stays old (Refused cause n ∷ [])
-Edited old n edit None turn = (turn ≡ becomes (record old { scene = effect old.scene edit })) ⊎ (turn ≡ stays old (Refused NoMemory n ∷ []))
+-- an accepted call has no reply
+abbrev pub told_result : ℕ → Result (Unit {0}) Refusal → List Answer
+told_result n (Ok done) = []
+told_result n (Err cause) = Refused cause n ∷ []
 
--- what a rectangle that is added may do: its numbers leave their ranges; else it is added, or memory was wanting
-abbrev pub Added : State → ℕ → Option Area → (Area → State) → Turn → Type 0
-Added old n None with_area turn = turn ≡ stays old (Refused Range n ∷ [])
-Added old n (Some area) with_area turn = (turn ≡ becomes (with_area area)) ⊎ (turn ≡ stays old (Refused NoMemory n ∷ []))
+-- what an edit answers, and the events that it makes
+pub record Edited : Type 0 where
+  pub result : Result (Unit {0}) Refusal
+  pub events : List Event
 
--- the rectangle of these numbers, where they keep their ranges
-abbrev pub area_of : ℤ → ℤ → ℤ → ℤ → Option Area
-area_of x y w h = limited (record { x = x; y = y; w = w; h = h })
+abbrev pub told_edit : ℕ → Edited → List Answer
+told_edit n edited = told_result n edited.result ++ map told_event edited.events
 
--- one more rectangle was given
-abbrev pub with_given : State → Area → State
-with_given old area = record old { given = old.given ++ area ∷ [] }
+-- the refusal of a start
+abbrev pub start_refusal : StartErr → Refusal
+start_refusal start_err.Busy = Busy
+start_refusal start_err.NoMemory = NoMemory
 
--- one more rectangle is hidden
-abbrev pub with_hidden : State → Area → State
-with_hidden old area = record old { areas = old.areas ++ area ∷ [] }
+-- what a flush tells of the frame of a start
+abbrev pub told_frame : Flushed → Entry → Answer
+told_frame flushed.Shown entry = Shown entry.number entry.capture.w entry.capture.h entry.updates
+told_frame (flushed.Lost before after) entry = Lost entry.number
 
--- a start of the scene as it stands, of whose objects no two have one id
-pub record IsStart (cell : ℕ) (old : State) (entry : Entry) : Type 0 where
-  pub starts : Starts cell (newest_of old.starts) (stage_of old.scene) old.given old.areas entry
-  pub own : AllPairs (λ i j. i ≢ j) (ids entry.stage.objects)
+-- the same of the newest start
+abbrev pub told_flush : Flushed → Option Latest → List Answer
+told_flush flushed None = []
+told_flush flushed (Some latest) = told_frame flushed latest.entry ∷ []
 
--- a start is made, and its frame ends so
-abbrev pub drawn : State → Entry → End → List Answer → Turn
-drawn old entry e replies = record { replies = replies; after = record old { given = []; starts = record { entry = entry; end = e } ∷ old.starts } }
+-- ---- renders
 
--- what a render may do: its frame is shown or lost, or memory was wanting
-pub data Rendered (cell : ℕ) (old : State) (n : ℕ) : Turn → Type 0 where
-  as_shown : (entry : Entry) → IsStart cell old entry → Rendered cell old n (drawn old entry end.Shown (Shown (next old) old.scene.w old.scene.h entry.updates ∷ []))
-  as_lost : (entry : Entry) → IsStart cell old entry → Rendered cell old n (drawn old entry end.Lost (Lost (next old) ∷ []))
-  as_refused : Rendered cell old n (stays old (Refused NoMemory n ∷ []))
+-- what follows on a start that a render made, or that was refused and changed nothing
+abbrev pub EndsRender : State → ℕ → Result Started StartErr → Now → Turn → Type 0
+EndsRender old n (Ok started) begun turn = (flushed : Flushed) × MayFlush begun flushed turn.after.now
+    × (turn.replies ≡ told_flush flushed begun.frames.newest) × (turn.after.older ≡ starts_of old)
+EndsRender old n (Err cause) begun turn = turn ≡ stays old (Refused (start_refusal cause) n ∷ [])
 
--- the pixel of a start's frame at x, y, where it wasn't hidden
-abbrev pub place : Entry → ℕ → ℕ → Option Argb
-place entry x y = if has_pixel entry.hidden (pos x) (pos y) then None else Some (paint entry.stage x y)
+-- a start, and a flush of its frame
+pub record Renders (setting : Setting) (old : State) (n : ℕ) (turn : Turn) : Type 0 where
+  pub answer : Result Started StartErr
+  pub begun : Now
+  pub start : MayStart setting.setup.cell old.now answer begun
+  pub ends : EndsRender old n answer begun turn
 
--- row y of it, from the left
-abbrev pub place_row : Entry → ℕ → List (Option Argb)
-place_row entry y = map (λ x. place entry x y) (range_with_len 0 entry.stage.w)
+-- ---- loads
 
--- its rows, from the top
-abbrev pub rows : Entry → List Answer
-rows entry = map (λ y. DumpRow (place_row entry y)) (range_with_len 0 entry.stage.h)
-
--- its totals, as one reply
-abbrev pub sums : Entry → List Answer
-sums entry = totals (flat_map (place_row entry) (range_with_len 0 entry.stage.h)) ∷ []
-
--- what a command prints of the frame drawn last; it is refused where there is none
-abbrev pub printed : (Entry → List Answer) → State → ℕ → List Latest → Turn
-printed print old n [] = stays old (Refused NoFrame n ∷ [])
-printed print old n (latest ∷ older) = stays old (print latest.entry)
-
--- so many loads began, and none runs
-abbrev pub none_running : ℕ → Loads
-none_running begun = record { running = []; begun = begun }
-
--- what is told of a load for an object of this name, by its fault
-abbrev pub told_fault : List ℕ → Option LoadFault → Answer
-told_fault name None = Preloaded name
-told_fault name (Some fault) = PreloadFailed name fault
-
--- after a load ended: its object has what was loaded, or what it had
-abbrev pub loaded : State → Job → LoadEnd → Turn
-loaded old job e = record { replies = told_fault job.name (fault_of e) ∷ []; after = record old { scene = taken old.scene job e; begun = old.begun + 1 } }
-
--- a load that began ends by the files, where they are told
-pub record Ends (files : Option (List StoredFile)) (old : State) (job : Job) (turn : Turn) : Type 0 where
+-- a load that began: an end that the files allow is held and collected, and what that makes is told
+pub record EndsLoad (files : Option (List StoredFile)) (old : State) (job : Job) (begun : Now) (turn : Turn) : Type 0 where
   pub end : LoadEnd
   pub by_files : EndsBy files job.key job.kind end
   pub of_kind : IsOfKind job.kind end
-  pub number : job.number ≡ old.begun + 1
-  pub is : turn ≡ loaded old job end
+  pub taken : Bool
+  pub events : List Event
+  pub collects : MayCollect (held begun job.number end) job.number taken turn.after.now events
+  pub tells : turn.replies ≡ map told_event events
+  pub older : turn.after.older ≡ old.older
 
--- what a load may do: it is refused, or it begins and ends
-abbrev pub Loaded : Option (List StoredFile) → State → ℕ → Result Job Refusal → Turn → Type 0
-Loaded files old n (Err cause) turn = turn ≡ stays old (Refused cause n ∷ [])
-Loaded files old n (Ok job) turn = Ends files old job turn
+-- what follows on a preload that a load made, or that was refused and changed nothing
+abbrev pub LoadsBy : Option (List StoredFile) → State → ℕ → Result Job Refusal → Now → Turn → Type 0
+LoadsBy files old n (Ok job) begun turn = EndsLoad files old job begun turn
+LoadsBy files old n (Err cause) begun turn = turn ≡ stays old (Refused cause n ∷ [])
+
+-- a preload for the object of a name, and its end
+pub record LoadsFile (setting : Setting) (old : State) (n : ℕ) (name : List ℕ) (turn : Turn) : Type 0 where
+  pub answer : Result Job Refusal
+  pub begun : Now
+  pub preload : MayPreload old.now name answer begun
+  pub ends : LoadsBy setting.files old n answer begun turn
+
+-- ---- looks
+
+-- the pixel of a start's frame at x, y, where it wasn't hidden
+abbrev pub place : Entry → ℕ → ℕ → Option Argb
+place entry x y = if has_pixel entry.hidden (pos x) (pos y) then None else Some (paint entry.capture x y)
+
+-- row y of it, from the left
+abbrev pub place_row : Entry → ℕ → List (Option Argb)
+place_row entry y = map (λ x. place entry x y) (range_with_len 0 entry.capture.w)
+
+-- its rows, from the top
+abbrev pub rows : Entry → List Answer
+rows entry = map (λ y. DumpRow (place_row entry y)) (range_with_len 0 entry.capture.h)
+
+-- its totals, as one reply
+abbrev pub sums : Entry → List Answer
+sums entry = totals (flat_map (place_row entry) (range_with_len 0 entry.capture.h)) ∷ []
+
+-- what a command of line n prints of the newest start: it is refused where there is none, and while its frame is running
+abbrev pub printed : (Entry → List Answer) → ℕ → Option Latest → List Answer
+printed print n None = Refused NoFrame n ∷ []
+printed print n (Some latest) = if is_running latest.end then Refused Busy n ∷ [] else print latest.entry

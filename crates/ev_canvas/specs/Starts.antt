@@ -1,18 +1,19 @@
 -- What a start captures and owes, and what its frame leaves to the next start.
-use Rattle.std.specs.Prelude.{◌≡◌, ℕ, ◌==◌, ℤ, Bool, true, false, not, ◌&&◌, ◌||◌, List, Option, Some, None}
+use Rattle.std.specs.Prelude.{◌≡◌, ℕ, ◌+◌, ◌==◌, ℤ, Bool, true, false, not, ◌&&◌, ◌||◌, List, Option, Some, None}
 use Rattle.ev_geom.specs.Area.{Area, holds}
 use Rattle.ev_geom.specs.Bands.{has_pixel, IsBandsOf}
 use Rattle.ev_geom.specs.Snap.{IsSnapOf}
-use Rattle.ev_model.specs.Look.{looks}
-use Rattle.ev_model.specs.Stage.{Stage, canvas}
+use Rattle.ev_model.specs.Capture.{Capture}
+use Rattle.ev_model.specs.Stage.{canvas_on}
 use Rattle.ev_damage.specs.Damage.{is_damaged}
 use Rattle.ev_canvas.specs.declared.newest.End.{End}
 use Rattle.ev_canvas.specs.declared.newest.End.TheVariants as end
 
--- A start: what is painted of the scene that it captured, and three banded lists of rectangles: what its
+-- A start: its number, what it captured of its scene, and three banded lists of rectangles: what its
 -- frame owes, what is hidden from it, and what it updates.
 pub record Entry : Type 0 where
-  pub stage : Stage
+  pub number : ℕ
+  pub capture : Capture
   pub owed : List Area
   pub hidden : List Area
   pub updates : List Area
@@ -22,47 +23,67 @@ pub record Latest : Type 0 where
   pub entry : Entry
   pub end : End
 
+abbrev pub is_running : End → Bool
+is_running end.Running = true
+is_running end.Shown = false
+is_running end.Lost = false
+
+abbrev pub is_shown : End → Bool
+is_shown end.Running = false
+is_shown end.Shown = true
+is_shown end.Lost = false
+
 abbrev pub is_lost : End → Bool
 is_lost end.Running = false
 is_lost end.Shown = false
 is_lost end.Lost = true
 
+-- the number of the newest start, or 0 before there is one
+abbrev pub last_number : Option Latest → ℕ
+last_number None = 0
+last_number (Some latest) = latest.entry.number
+
+-- the number of the next start; they are counted from 1
+abbrev pub next_number : Option Latest → ℕ
+next_number newest = last_number newest + 1
+
 -- whether a frame leaves the pixel to the next one: it does where the pixel was hidden, and, if the frame was lost, where it owed it
 abbrev pub left : Latest → ℤ → ℤ → Bool
 left latest x y = (is_lost latest.end && has_pixel latest.entry.owed x y) || has_pixel latest.entry.hidden x y
 
--- whether two scenes have one size
-abbrev pub has_size_of : Stage → Stage → Bool
+-- whether two captured scenes have one size
+abbrev pub has_size_of : Capture → Capture → Bool
 has_size_of a b = a.w == b.w && a.h == b.h
 
--- whether the pixel is on the canvas, and it may look different in the second scene or lies in a given rectangle
-abbrev pub touched : Stage → Stage → List Area → ℤ → ℤ → Bool
-touched before now given x y = (is_damaged (looks before) (looks now) x y || has_pixel given x y) && holds (canvas now) x y
+-- whether the pixel is on the canvas, and it may look different in the second one or lies in a given rectangle
+abbrev pub touched : Capture → Capture → List Area → ℤ → ℤ → Bool
+touched before now given x y = (is_damaged before.looks now.looks x y || has_pixel given x y) && holds (canvas_on now.w now.h) x y
 
 -- owed is what was touched, in whole cells, and what the frame before left
-pub record OwesOn (cell : ℕ) (before : Latest) (now : Stage) (given owed : List Area) : Type 0 where
+pub record OwesOn (cell : ℕ) (before : Latest) (now : Capture) (given owed : List Area) : Type 0 where
   pub cells : List Area
-  pub snapped : IsSnapOf cell now.w now.h (touched before.entry.stage now given) cells
+  pub snapped : IsSnapOf cell now.w now.h (touched before.entry.capture now given) cells
   pub pixels : IsBandsOf (λ x y. has_pixel cells x y || left before x y) owed
 
 -- the whole canvas is owed
-abbrev pub OwesAll : Stage → List Area → Type 0
-OwesAll now owed = IsBandsOf (holds (canvas now)) owed
+abbrev pub OwesAll : Capture → List Area → Type 0
+OwesAll now owed = IsBandsOf (holds (canvas_on now.w now.h)) owed
 
 -- the same, where the scene before had the same size; else all is owed
-abbrev pub OwesIf : Bool → ℕ → Latest → Stage → List Area → List Area → Type 0
+abbrev pub OwesIf : Bool → ℕ → Latest → Capture → List Area → List Area → Type 0
 OwesIf true cell before now given owed = OwesOn cell before now given owed
 OwesIf false cell before now given owed = OwesAll now owed
 
 -- what a start owes; the first one owes all
-abbrev pub Owes : ℕ → Option Latest → Stage → List Area → List Area → Type 0
+abbrev pub Owes : ℕ → Option Latest → Capture → List Area → List Area → Type 0
 Owes cell None now given owed = OwesAll now owed
-Owes cell (Some before) now given owed = OwesIf (has_size_of before.entry.stage now) cell before now given owed
+Owes cell (Some before) now given owed = OwesIf (has_size_of before.entry.capture now) cell before now given owed
 
 -- A start after the one before, with cells of this size: the rectangles given since then count as touched, and those in
 -- `areas` hide what lies under them.
-pub record Starts (cell : ℕ) (before : Option Latest) (now : Stage) (given areas : List Area) (entry : Entry) : Type 0 where
-  pub stage : entry.stage ≡ now
-  pub hidden : IsBandsOf (λ x y. has_pixel areas x y && holds (canvas now) x y) entry.hidden
+pub record Starts (cell : ℕ) (before : Option Latest) (now : Capture) (given areas : List Area) (entry : Entry) : Type 0 where
+  pub number : entry.number ≡ next_number before
+  pub capture : entry.capture ≡ now
+  pub hidden : IsBandsOf (λ x y. has_pixel areas x y && holds (canvas_on now.w now.h) x y) entry.hidden
   pub owed : Owes cell before now given entry.owed
   pub updates : IsBandsOf (λ x y. has_pixel entry.owed x y && not (has_pixel entry.hidden x y)) entry.updates

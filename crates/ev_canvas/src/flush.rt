@@ -1,8 +1,9 @@
 // Frames that end: they are shown, or lost.
 ghost use Rattle.std.specs.Prelude.{◌≡◌, ◌≤◌, true};
-ghost use Rattle.ev_canvas.specs.Frames.{entry_of, end_of, IsDrawn, IsFlushed};
+ghost use Rattle.ev_canvas.specs.Frames.{end_of, IsFlushed};
+ghost use Rattle.ev_canvas.specs.Canvas.{entry_of, IsDrawn};
 
-use crate::frames::Frames;
+use crate::Canvas;
 use crate::newest::{End, Newest};
 use ev_port::Screen;
 
@@ -27,49 +28,51 @@ pub enum Flushed {
     Lost { before: u64, after: u64 },
 }
 
-impl Frames {
-    ghost use Rattle.ev_canvas.specs.Frames.{standing, IsFrames, runs, finish_of, Flushes};
+impl Canvas {
+    ghost use Rattle.std.specs.Prelude.{IfSome};
+    ghost use Rattle.ev_canvas.specs.Frames.{runs, finish_of};
+    ghost use Rattle.ev_canvas.specs.Calls.{MayFlush};
+    ghost use Rattle.ev_canvas.specs.Canvas.{now_of};
 
     /// What there is to flush: the running frame, which is drawn, or nothing.
-    pub(crate) fn finish(&self) -> Finish
-        ensures { result ≡ finish_of (standing self.now) }
+    pub fn finish(&self) -> Finish
+        ensures { result ≡ finish_of self.now.frames.newest }
     {
-        if self.is_running() {
-            Finish::Frame { n: self.count }
-        } else {
-            Finish::Idle
+        match &self.newest {
+            Some(newest) if newest.end.is_running() => Finish::Frame { n: newest.number },
+            _ => Finish::Idle,
         }
     }
 
     /// Shows the running frame, or loses it where the screen fails (docs/CANVAS.md, "Frames").
-    pub(crate) fn flush<P: Screen>(&mut self, screen: &mut P) -> Flushed
-        requires frames { IsFrames self.old }
-        requires running { runs (standing self.old).newest ≡ true }
-        ensures frames { IsFrames self.new }
-        ensures flushes { Flushes (standing self.old)
+    pub fn flush<P: Screen>(&mut self, screen: &mut P) -> Flushed
+        requires running { runs self.old.frames.newest ≡ true }
+        ensures flushes { MayFlush (now_of self.old) result (now_of self.new) }
+        ensures shows { IfSome self.old.frames.newest (λ latest. IsFlushed latest.entry
             (record { shown = P.shown screen.old; faults = P.faults screen.old }) result
-            (record { shown = P.shown screen.new; faults = P.faults screen.new }) (standing self.new) }
+            (record { shown = P.shown screen.new; faults = P.faults screen.new })) }
+        ensures alone { self.new ≡ record self.old { frames = self.new.frames } }
         ensures later { P.faults screen.old ≤ P.faults screen.new }
     {
         let Some(newest) = &mut self.newest else {
-            return Flushed::Shown;
+            unreachable!()
         };
-        let flushed = present(newest, self.count, screen);
+        let flushed = present(newest, screen);
         newest.end = end_of(flushed);
         flushed
     }
 }
 
 // Shows a frame.
-fn present<P: Screen>(newest: &Newest, n: u64, screen: &mut P) -> Flushed
+fn present<P: Screen>(newest: &Newest, screen: &mut P) -> Flushed
     requires { IsDrawn newest.now }
-    ensures flushed { IsFlushed n (entry_of newest.now)
+    ensures flushed { IsFlushed (entry_of newest.now)
         (record { shown = P.shown screen.old; faults = P.faults screen.old }) result
         (record { shown = P.shown screen.new; faults = P.faults screen.new }) }
     ensures later { P.faults screen.old ≤ P.faults screen.new }
 {
     let before = screen.faults();
-    match screen.present(n, newest.updates.rects(), &newest.picture) {
+    match screen.present(newest.number, newest.updates.rects(), &newest.picture) {
         Ok(()) => Flushed::Shown,
         Err(_) => Flushed::Lost {
             before,

@@ -2,10 +2,11 @@
 ghost use Rattle.std.specs.Prelude.{◌≡◌, ◌≤◌, ◌&&◌, IfOk, OnOk, Some, option_map};
 ghost use Rattle.ev_geom.specs.Area.{holds};
 ghost use Rattle.ev_geom.specs.Bands.{has_pixel, IsBandsOf, FitsRegion};
-ghost use Rattle.ev_model.specs.Stage.{stage, canvas};
+ghost use Rattle.ev_model.specs.Capture.{capture_of};
+ghost use Rattle.ev_model.specs.Stage.{stage, canvas_on};
 ghost use Rattle.ev_damage.specs.Places.{Adds};
 ghost use Rattle.ev_canvas.specs.Starts.{touched, has_size_of, OwesOn, OwesAll, Owes};
-ghost use Rattle.ev_canvas.specs.Frames.{latest_of};
+ghost use Rattle.ev_canvas.specs.Canvas.{latest_of};
 
 use crate::NoMemory;
 use crate::newest::Newest;
@@ -20,7 +21,7 @@ use std::alloc::Global;
 pub(crate) fn canvas(scene: &Scene) -> Rect
     requires width { scene.now.w ≤ 4096 }
     requires height { scene.now.h ≤ 4096 }
-    ensures canvas { result ≡ canvas (stage scene.now) }
+    ensures canvas { result ≡ canvas_on scene.now.w scene.now.h }
     ensures fits { FitsRegion result }
 {
     Rect::at_origin(scene.w, scene.h)
@@ -44,7 +45,7 @@ fn add_meet(region: &mut Region, one: &Rect, other: &Rect) -> Result<(), NoMemor
     ensures { OnOk result (Adds (λ x y. holds one.now x y && holds other.now x y) region.old region.new) }
 {
     let both = one.meet(other);
-    if 0 < both.w() && 0 < both.h() {
+    if !both.is_empty() {
         region.add_rect(&both)?;
     }
     Ok(())
@@ -61,7 +62,7 @@ pub(crate) fn owed(
 ) -> Result<Region, NoMemory>
     requires low { 1 ≤ cell }
     requires high { cell ≤ 64 }
-    ensures { IfOk result (Owes cell (option_map latest_of before.now) (stage now.now.scene) given.now) }
+    ensures { IfOk result (Owes cell (option_map latest_of before.now) (capture_of (stage now.now.scene)) given.now) }
 {
     match before {
         None => whole(alloc, now),
@@ -71,7 +72,7 @@ pub(crate) fn owed(
 
 // The whole canvas.
 fn whole(alloc: Global, now: &Captured) -> Result<Region, NoMemory>
-    ensures { IfOk result (OwesAll (stage now.now.scene)) }
+    ensures { IfOk result (OwesAll (capture_of (stage now.now.scene))) }
 {
     let mut region = Region::new(alloc);
     region.add_rect(&canvas(now.scene()))?;
@@ -80,7 +81,7 @@ fn whole(alloc: Global, now: &Captured) -> Result<Region, NoMemory>
 
 // Whether two scenes have one size.
 fn has_size_of(a: &Scene, b: &Scene) -> bool
-    ensures { result ≡ has_size_of (stage a.now) (stage b.now) }
+    ensures { result ≡ has_size_of (capture_of (stage a.now)) (capture_of (stage b.now)) }
 {
     a.w == b.w && a.h == b.h
 }
@@ -95,7 +96,7 @@ fn owed_after(
 ) -> Result<Region, NoMemory>
     requires low { 1 ≤ cell }
     requires high { cell ≤ 64 }
-    ensures { IfOk result (Owes cell (Some (latest_of before.now)) (stage now.now.scene) given.now) }
+    ensures { IfOk result (Owes cell (Some (latest_of before.now)) (capture_of (stage now.now.scene)) given.now) }
 {
     if has_size_of(before.shot.scene(), now.scene()) {
         owed_on(alloc, cell, before, now, given)
@@ -114,7 +115,7 @@ fn owed_on(
 ) -> Result<Region, NoMemory>
     requires low { 1 ≤ cell }
     requires high { cell ≤ 64 }
-    ensures { IfOk result (OwesOn cell (latest_of before.now) (stage now.now.scene) given.now) }
+    ensures { IfOk result (OwesOn cell (latest_of before.now) (capture_of (stage now.now.scene)) given.now) }
 {
     let touched = touched(alloc, &before.shot, now, given)?;
     let scene = now.scene();
@@ -130,7 +131,7 @@ fn touched(
     now: &Captured,
     given: &[Rect],
 ) -> Result<Region, NoMemory>
-    ensures { IfOk result (IsBandsOf (touched (stage before.now.scene) (stage now.now.scene) given.now)) }
+    ensures { IfOk result (IsBandsOf (touched (capture_of (stage before.now.scene)) (capture_of (stage now.now.scene)) given.now)) }
 {
     let canvas = canvas(now.scene());
     let given = on_canvas(alloc, given, &canvas)?;

@@ -1,19 +1,19 @@
 // Starts of frames.
-ghost use Rattle.std.specs.Prelude.{◌≡◌, ◌≤◌, ◌<◌, ◌+◌, ◌*◌, ◌^◌, ◌&&◌, not, IfOk, OnErr};
+ghost use Rattle.std.specs.Prelude.{◌≡◌, ◌≤◌, ◌<◌, ◌+◌, ◌*◌, ◌^◌, ◌&&◌, not, false, [], IfOk, Some};
 ghost use Rattle.ev_geom.specs.Bands.{has_pixel, IsBandsOf};
 ghost use Rattle.ev_geom.specs.Tiles.{tiles_along};
+ghost use Rattle.ev_model.specs.Capture.{capture_of};
 ghost use Rattle.ev_model.specs.Stage.{stage};
 ghost use Rattle.ev_model.specs.Paint.{IsRedrawn};
-ghost use Rattle.ev_scene.specs.Board.{board, stage_of};
+ghost use Rattle.ev_damage.specs.Places.{HaveOwnIds};
 
-use crate::NoMemory;
-use crate::frames::Frames;
 use crate::newest::{End, Newest};
 use crate::owed::{canvas, on_canvas, owed};
+use crate::{Canvas, NoMemory};
 use ev_argb::{PLANE_SIDE, Picture};
-use ev_model::{Scene, full_redraw};
+use ev_model::full_redraw;
 use ev_region::Region;
-use ev_scene::{Captured, SceneBox};
+use ev_scene::Captured;
 use std::alloc::Global;
 
 /// A start that was accepted: its number, counted from 1, and how many tiles its frame draws.
@@ -32,50 +32,52 @@ pub enum StartErr {
     NoMemory,
 }
 
-impl Frames {
-    ghost use Rattle.ev_canvas.specs.Starts.{Starts};
-    ghost use Rattle.ev_canvas.specs.Frames.{standing, IsFrames, IsDrawn, IsStarted, entry_of, latest_of};
+impl Canvas {
+    ghost use Rattle.ev_canvas.specs.Starts.{Starts, last_number, next_number};
+    ghost use Rattle.ev_canvas.specs.Frames.{runs, started_of};
+    ghost use Rattle.ev_canvas.specs.Calls.{MayStart};
+    ghost use Rattle.ev_canvas.specs.Canvas.{now_of, IsDrawn, entry_of, latest_of};
     ghost use Rattle.ev_canvas.specs.declared.newest.End.TheVariants.{Running};
 
     /// Starts a frame of the scene as it stands, and draws it. `Busy` exactly where a frame is
-    /// running; `NoMemory` where there is no room. Then nothing changes (docs/CANVAS.md, "Frames").
-    pub(crate) fn start(&mut self, scene: &SceneBox) -> Result<Started, StartErr>
-        requires frames { IsFrames self.old }
-        requires count { self.old.count < 2 ^ 40 }
-        ensures frames { IsFrames self.new }
-        ensures started { IsStarted (standing self.old) (stage_of (board scene.now)) result (standing self.new) }
-        ensures kept { OnErr result (self.new ≡ self.old) }
+    /// running; `NoMemory` where there is no room (docs/CANVAS.md, "Frames").
+    pub fn start(&mut self) -> Result<Started, StartErr>
+        requires count { last_number self.old.frames.newest < 2 ^ 40 }
+        ensures starts { MayStart self.old.setup.cell (now_of self.old) result (now_of self.new) }
+        ensures alone { self.new ≡ record self.old { frames = self.new.frames } }
     {
         if self.is_running() {
             return Err(StartErr::Busy);
         }
-        let Ok(shot) = scene.capture() else {
+        self.scene.list_order();
+        let Ok(shot) = self.scene.capture() else {
             return Err(StartErr::NoMemory);
         };
-        let Ok(newest) = self.next(shot) else {
+        let Ok(next) = self.next(shot) else {
             return Err(StartErr::NoMemory);
         };
-        let tiles = tiles(newest.shot.scene());
-        self.given.clear();
-        self.count += 1;
-        self.newest = Some(newest);
-        let n = self.count;
-        Ok(Started { n, tiles })
+        Ok(self.accept(next))
     }
 
     // The start that captured this scene, with its frame drawn.
     fn next(&self, shot: Captured) -> Result<Newest, NoMemory>
-        requires frames { IsFrames self.now }
-        ensures is { IfOk result IsDrawn }
-        ensures running { IfOk result (λ newest. newest.end ≡ Running) }
-        ensures starts { IfOk result (λ newest. Starts self.now.cell (standing self.now).newest (stage shot.scene) self.now.given.items self.now.areas.items (entry_of newest)) }
+        requires count { last_number self.now.frames.newest < 2 ^ 40 }
+        ensures drawn { IfOk result IsDrawn }
+        ensures running { IfOk result (λ next. next.end ≡ Running) }
+        ensures starts { IfOk result (λ next. Starts self.now.setup.cell self.now.frames.newest (capture_of (stage shot.scene)) self.now.frames.given self.now.frames.areas (entry_of next)) }
     {
-        let alloc = *self.given.allocator();
-        let hidden = on_canvas(alloc, &self.areas, &canvas(shot.scene()))?;
-        let owed = owed(alloc, self.cell, &self.newest, &shot, &self.given)?;
+        let hidden = on_canvas(self.alloc, &self.areas, &canvas(shot.scene()))?;
+        let owed = owed(
+            self.alloc,
+            self.setup.cell,
+            &self.newest,
+            &shot,
+            &self.given,
+        )?;
         let updates = without(&owed, &hidden)?;
-        let picture = redrawn(alloc, &shot)?;
+        let picture = redrawn(self.alloc, &shot)?;
         Ok(Newest {
+            number: self.frames() + 1,
             shot,
             owed,
             hidden,
@@ -83,6 +85,27 @@ impl Frames {
             end: End::Running,
             picture,
         })
+    }
+
+    // A start is the newest from now on.
+    fn accept(&mut self, next: Newest) -> Started
+        requires ended { runs self.old.frames.newest ≡ false }
+        requires drawn { IsDrawn next }
+        requires running { next.end ≡ Running }
+        ensures started { result ≡ record { n = next.number; tiles = tiles_along next.shot.scene.h * tiles_along next.shot.scene.w } }
+        ensures own { HaveOwnIds (entry_of next).capture.looks }
+        ensures stands { self.new ≡ record self.old { frames = record self.old.frames { given = []; newest = Some (latest_of next) } } }
+    {
+        let started = Started {
+            n: next.number,
+            tiles: tiles(&next.shot),
+        };
+        self.given.clear();
+        if let Some(last) = self.newest.take() {
+            self.before = last.into_drawn();
+        }
+        self.newest = Some(next);
+        started
     }
 }
 
@@ -95,21 +118,24 @@ fn without(one: &Region, other: &Region) -> Result<Region, NoMemory>
     Ok(rest)
 }
 
-// A full redraw of the scene.
+// A full redraw of the scene, by its records.
+#[tactic(auto, using(crate::proofs::Drawing::drawn_on, crate::proofs::Drawing::drawn_by))]
 fn redrawn(alloc: Global, shot: &Captured) -> Result<Picture, NoMemory>
-    ensures { IfOk result (IsRedrawn (stage shot.now.scene)) }
+    ensures { IfOk result (IsRedrawn (capture_of (stage shot.now.scene))) }
 {
     let scene = shot.scene();
     let mut picture = Picture::new(alloc, scene.w, scene.h)?;
-    full_redraw(scene, &mut picture);
+    full_redraw(shot.records(), &mut picture);
     Ok(picture)
 }
 
-// How many tiles the canvas of a scene has.
-fn tiles(scene: &Scene) -> u32
-    requires width { scene.now.w ≤ 4096 }
-    requires height { scene.now.h ≤ 4096 }
-    ensures { result ≡ tiles_along scene.now.h * tiles_along scene.now.w }
+// How many tiles the canvas of a captured scene has. That its looks are of different objects is
+// told here.
+#[tactic(auto, using(crate::proofs::Drawing::own_looks))]
+fn tiles(shot: &Captured) -> u32
+    ensures value { result ≡ tiles_along shot.now.scene.h * tiles_along shot.now.scene.w }
+    ensures own { HaveOwnIds (capture_of (stage shot.now.scene)).looks }
 {
+    let scene = shot.scene();
     scene.h.div_ceil(PLANE_SIDE) * scene.w.div_ceil(PLANE_SIDE)
 }

@@ -1,75 +1,205 @@
 // Frames of a canvas of which a part is hidden, and loads.
-ghost use Rattle.std.specs.Prelude.{◌<◌, ◌≤◌, ◌+◌, ◌^◌};
-ghost use Rattle.ev_canvas.specs.Frames.{IsFrames};
+ghost use Rattle.std.specs.Prelude.{◌≡◌, [], true, IfOk};
+ghost use Rattle.ev_model.specs.Limits.{IsEdit};
+ghost use Rattle.ev_canvas.specs.Frames.{runs};
 
-use crate::flush::Flushed;
-use crate::frames::Frames;
-use crate::{Canvas, Event, Setup};
+use crate::{Canvas, Event, Finish, Flushed, NoPicture, Setup};
 use ev_geom::Rect;
 use ev_model::{Edit, Kind, Name, Refusal};
 use ev_port::{MemScreen, ScreenRoom};
 use ev_preload::LoadEnd;
-use ev_scene::SceneBox;
+use std::alloc::{AllocError, Global};
 use std::test::Fail;
 
-// Starts a frame and flushes it. Gives how many rectangles it updates, or none where it was lost or
-// not started.
-fn flushed(frames: &mut Frames, scene: &SceneBox, screen: &mut MemScreen) -> Option<usize>
-    requires frames { IsFrames frames.old }
-    requires count { frames.old.count < 2 ^ 40 }
-    ensures frames { IsFrames frames.new }
-    ensures count { frames.new.count ≤ frames.old.count + 1 }
+// A canvas with cells of 8, on which nothing was done yet.
+fn new(alloc: Global) -> Result<Canvas, AllocError>
+    ensures taken { IfOk result (λ canvas. canvas.events ≡ []) }
+    ensures idle { IfOk result (λ canvas. canvas.loads.running ≡ []) }
+    ensures first { IfOk result (λ canvas. canvas.loads.begun ≡ 0) }
 {
-    let Ok(_) = frames.start(scene) else {
-        return None;
+    let setup = Setup {
+        buffers: 1,
+        cell: 8,
     };
-    match frames.flush(screen) {
-        Flushed::Shown => Some(frames.updates().len()),
-        Flushed::Lost { .. } => None,
+    Canvas::create(alloc, setup)
+}
+
+// Whether an edit is carried out, while nothing is loaded.
+fn is_edited(canvas: &mut Canvas, edit: &Edit) -> bool
+    requires text { IsEdit edit.now }
+    requires taken { canvas.old.events ≡ [] }
+    requires idle { canvas.old.loads.running ≡ [] }
+    ensures taken { canvas.new.events ≡ [] }
+    ensures idle { canvas.new.loads.running ≡ [] }
+    ensures same { canvas.new.loads.begun ≡ canvas.old.loads.begun }
+{
+    canvas.edit(edit).is_ok()
+}
+
+// A canvas of 16 by 8 pixels.
+fn small(alloc: Global) -> Result<Canvas, AllocError> {
+    let mut canvas = new(alloc)?;
+    if is_edited(&mut canvas, &Edit::Size { w: 16, h: 8 }) {
+        Ok(canvas)
+    } else {
+        Err(AllocError)
     }
 }
 
-#[test]
-fn what_was_hidden_or_lost_is_owed_later(rt: HostRuntime) -> Result<(), Fail> {
-    let alloc = rt.alloc();
-    let mut scene = SceneBox::new(alloc)?;
-    assert!(rt; scene.edit(&Edit::Size { w: 16, h: 8 }).is_ok());
+// A screen that fails at the second frame.
+fn screen(alloc: Global) -> Result<MemScreen, AllocError> {
     let room = ScreenRoom {
         frames: 3,
         updates: 9,
         pixels: 999,
     };
-    let mut screen = MemScreen::new(alloc, room, [2].to_vec(alloc)?)?;
-    let mut frames = Frames::new(alloc, 8);
-    assert_eq!(rt; frames.hide_area(4, 0, 4, 8), Ok(()));
-    assert_eq!(rt; frames.hide_area(0, 0, -1, 1), Err(Refusal::Range));
-    assert_eq!(rt; flushed(&mut frames, &scene, &mut screen), Some(2));
-    frames.clear_areas();
-    assert_eq!(rt; frames.damage(0, 0, 1, 1), Ok(()));
-    assert_eq!(rt; flushed(&mut frames, &scene, &mut screen), None);
-    assert_eq!(rt; flushed(&mut frames, &scene, &mut screen), Some(1));
-    let owed = Rect::new(0, 0, 8, 8).expect(&rt, "a rectangle");
-    assert_eq!(rt; frames.updates().first(), Some(&owed));
-    assert_eq!(rt; flushed(&mut frames, &scene, &mut screen), Some(0));
+    MemScreen::new(alloc, room, [2].to_vec(alloc)?)
+}
+
+// Whether a frame is started.
+fn is_started(canvas: &mut Canvas) -> bool
+    ensures { result ≡ true → runs canvas.new.frames.newest ≡ true }
+{
+    canvas.frames() < 8 && canvas.start().is_ok()
+}
+
+// Whether the running frame is shown.
+fn is_shown(canvas: &mut Canvas, screen: &mut MemScreen) -> bool
+    requires { runs canvas.old.frames.newest ≡ true }
+{
+    match canvas.flush(screen) {
+        Flushed::Shown => true,
+        Flushed::Lost { .. } => false,
+    }
+}
+
+// Starts a frame and flushes it. Gives how many rectangles were updated last before and after the
+// flush, or none where the frame was lost or not started.
+fn frame(canvas: &mut Canvas, screen: &mut MemScreen) -> Option<(usize, usize)> {
+    if !is_started(canvas) {
+        return None;
+    }
+    let before = canvas.updates().len();
+    if !is_shown(canvas, screen) {
+        return None;
+    }
+    Some((before, canvas.updates().len()))
+}
+
+// Hides half of the canvas, and no rectangle with numbers out of their ranges.
+fn hide_half(canvas: &mut Canvas) -> bool {
+    let bad = canvas.hide_area(0, 0, -1, 1);
+    bad == Err(Refusal::Range) && canvas.hide_area(4, 0, 4, 8) == Ok(())
+}
+
+// Hides nothing any more, and gives a pixel.
+fn give_pixel(canvas: &mut Canvas) -> bool {
+    canvas.clear_areas();
+    canvas.damage(0, 0, 1, 1) == Ok(())
+}
+
+// The first rectangle that the frame drawn last updates.
+fn first_update(canvas: &Canvas) -> Option<Rect> {
+    canvas.updates().first().copied()
+}
+
+#[test]
+fn what_was_hidden_or_lost_is_owed_later(rt: HostRuntime) -> Result<(), Fail> {
+    let mut canvas = small(rt.alloc())?;
+    let mut screen = screen(rt.alloc())?;
+    assert!(rt; hide_half(&mut canvas));
+    assert_eq!(rt; frame(&mut canvas, &mut screen), Some((0, 2)));
+    assert!(rt; give_pixel(&mut canvas));
+    for wanted in [None, Some((1, 1)), Some((1, 0))] {
+        assert_eq!(rt; frame(&mut canvas, &mut screen), wanted);
+    }
     Ok(())
 }
 
-// An end that is held for a preload is taken, and tells how it ended.
+#[test]
+fn a_lost_frame_and_what_it_hid_come_in_whole_cells(rt: HostRuntime) -> Result<(), Fail> {
+    let mut canvas = small(rt.alloc())?;
+    let mut screen = screen(rt.alloc())?;
+    assert!(rt; frame(&mut canvas, &mut screen).is_some());
+    assert!(rt; give_pixel(&mut canvas));
+    assert!(rt; frame(&mut canvas, &mut screen).is_none());
+    assert!(rt; frame(&mut canvas, &mut screen).is_some());
+    assert_eq!(rt; first_update(&canvas), Rect::new(0, 0, 8, 8));
+    Ok(())
+}
+
+// Why there is no picture before the first start and while its frame is running, and what there is
+// to flush then.
+fn first_start(canvas: &mut Canvas) -> (Option<NoPicture>, Option<NoPicture>, Finish) {
+    let before = canvas.picture().err();
+    _ = is_started(canvas);
+    (before, canvas.picture().err(), canvas.finish())
+}
+
+#[test]
+fn a_running_frame_has_no_picture_yet(rt: HostRuntime) -> Result<(), Fail> {
+    let mut canvas = small(rt.alloc())?;
+    let seen = first_start(&mut canvas);
+    let frame = Finish::Frame { n: 1 };
+    assert_eq!(rt;
+        seen,
+        (Some(NoPicture::NoFrame), Some(NoPicture::Busy), frame)
+    );
+    assert!(rt; canvas.hidden().rects().is_empty());
+    Ok(())
+}
+
+// Whether an image object is made that names a file.
+fn has_image(canvas: &mut Canvas, name: &Name) -> bool
+    requires taken { canvas.old.events ≡ [] }
+    requires idle { canvas.old.loads.running ≡ [] }
+    ensures taken { canvas.new.events ≡ [] }
+    ensures same { canvas.new.loads.begun ≡ canvas.old.loads.begun }
+{
+    let kind = Kind::Image;
+    if !is_edited(canvas, &Edit::Make { name: *name, kind }) {
+        return false;
+    }
+    let key = *name;
+    is_edited(canvas, &Edit::File { name: *name, key })
+}
+
+// A canvas with such an object.
+fn with_image(alloc: Global, name: &Name) -> Result<Canvas, AllocError>
+    ensures taken { IfOk result (λ canvas. canvas.events ≡ []) }
+    ensures first { IfOk result (λ canvas. canvas.loads.begun ≡ 0) }
+{
+    let mut canvas = new(alloc)?;
+    if has_image(&mut canvas, name) {
+        Ok(canvas)
+    } else {
+        Err(AllocError)
+    }
+}
+
+// Begins a load, whose file turns out to be missing. Gives the event of its end.
+#[tactic(auto, using(crate::proofs::Loading::missing_suits))]
+fn load_missing(canvas: &mut Canvas, name: &Name) -> Option<Event>
+    requires taken { canvas.old.events ≡ [] }
+    requires first { canvas.old.loads.begun ≡ 0 }
+{
+    if canvas.preload(name).is_err() {
+        return None;
+    }
+    canvas.hold(1, LoadEnd::Missing);
+    if !canvas.collect(1) {
+        return None;
+    }
+    canvas.next_event()
+}
+
+// An end that is held for a preload is taken, and tells how it ended, once.
 #[test]
 fn a_load_makes_its_event(rt: HostRuntime) -> Result<(), Fail> {
-    let setup = Setup {
-        buffers: 1,
-        cell: 8,
-    };
-    let mut canvas = Canvas::create(rt.alloc(), setup)?;
     let name = Name::read(b"i").expect(&rt, "a name");
-    let kind = Kind::Image;
-    assert_eq!(rt; canvas.edit(&Edit::Make { name, kind }), Ok(()));
-    assert_eq!(rt; canvas.edit(&Edit::File { name, key: name }), Ok(()));
-    assert!(rt; canvas.preload(&name).is_ok());
-    canvas.hold(1, LoadEnd::Missing);
-    assert_eq!(rt; canvas.collect(1), true);
-    assert!(rt; matches!(canvas.next_event(), Some(Event::PreloadFailed { .. })));
+    let mut canvas = with_image(rt.alloc(), &name)?;
+    let event = load_missing(&mut canvas, &name);
+    assert!(rt; matches!(event, Some(Event::PreloadFailed { .. })));
     assert!(rt; canvas.next_event().is_none());
     Ok(())
 }
