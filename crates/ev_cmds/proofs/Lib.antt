@@ -1,0 +1,6 @@
+pub mod Edging
+pub mod Placing
+pub mod Masking
+pub mod Running
+pub mod Culling
+pub mod Counting
