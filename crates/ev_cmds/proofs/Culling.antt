@@ -62,7 +62,7 @@ put_once r t (p ∷ ps) left top x y value h =
     later_only true n t h = absurd (cc)
     later_only false n t h = omega arith
 
-no_holds : (x y : ℤ) → holds nowhere x y ≡ false
+pub no_holds : (x y : ℤ) → holds nowhere x y ≡ false
 no_holds x y = out x (is_within (pos 0) (pos 0) y) where
   out : (at : ℤ) (b : Bool) → (is_within (pos 0) (pos 0) at && b) ≡ false
   out at b = grind (arith, ints)

@@ -4,3 +4,5 @@ pub mod Masking
 pub mod Running
 pub mod Culling
 pub mod Counting
+pub mod Hiding
+pub mod Filling

@@ -1,12 +1,11 @@
 -- Which records replace everything in their area.
-use Rattle.std.specs.Prelude.{◌≡◌, ◌≤◌, ℕ, ℤ, pos, Bool, true, false, ◌&&◌, ◌||◌, ◌==◌, nat_lt, unsigned_abs, if◌then◌else◌, Option, Some, None, List}
+use Rattle.std.specs.Prelude.{ℕ, pos, Bool, true, false, ◌&&◌, ◌||◌, ◌==◌, nat_lt, unsigned_abs, if◌then◌else◌, Option, Some, None, List}
 use Rattle.std.specs.List.{list_any}
-use Rattle.ev_argb.specs.Argb.{Argb, are_opaque, IsPremultiplied}
+use Rattle.ev_argb.specs.Argb.{Argb, are_opaque}
 use Rattle.ev_geom.specs.Area.{Area, nowhere, holds}
 use Rattle.ev_model.specs.Axis.{middle_source, middle_part}
 use Rattle.ev_model.specs.Raster.{Raster, IsImage}
 use Rattle.ev_model.specs.Sample.{columns_of, rows_of}
-use Rattle.ev_model.specs.Limits.{IsFill}
 use Rattle.ev_model.specs.Loaded.{Loaded}
 use Rattle.ev_model.specs.Look.{Look}
 use Rattle.ev_model.specs.declared.axis.Axis.{Axis}
@@ -65,19 +64,11 @@ opaque_area l = if replaces l then l.area else nowhere
 abbrev pub is_hidden : List Look → ℕ → ℕ → Bool
 is_hidden looks x y = list_any (λ l. holds (opaque_area l) (pos x) (pos y)) looks
 
--- the pixels that a content has are premultiplied, its fill keeps its limits, and its image has all its pixels
-abbrev pub IsSoundImage : ImagePart → Option (Loaded Raster) → Type 0
-IsSoundImage part None = Unit {0}
-IsSoundImage part (Some loaded) = IsImage loaded.value
+-- an image that is loaded has all its pixels, and they are premultiplied
+abbrev pub IsSoundImage : Option (Loaded Raster) → Type 0
+IsSoundImage None = Unit {0}
+IsSoundImage (Some loaded) = IsImage loaded.value
 
 abbrev pub IsSoundContent : Content → Type 0
-IsSoundContent (content.Image part) = IsFill part.fill × IsSoundImage part part.loaded
+IsSoundContent (content.Image part) = IsSoundImage part.loaded
 IsSoundContent content = Unit {0}
-
--- what can be relied on of a record
-pub record IsSound (l : Look) : Type 0 where
-  pub color : IsPremultiplied l.color
-  pub content : IsSoundContent l.object.content
-  pub within : (x y : ℤ) → holds l.area x y ≡ true → holds l.object.rect x y ≡ true
-  pub width : unsigned_abs l.object.rect.w ≤ 1000000
-  pub height : unsigned_abs l.object.rect.h ≤ 1000000
