@@ -11,7 +11,8 @@ use Rattle.ev_cmds.specs.Patches.{has_place, one, times, total, size_of, IsPatch
 use Rattle.ev_cmds.specs.Sheets.{layers, cost, patches_of, Shows}
 use Rattle.ev_cmds.specs.declared.patch.Patch.{Patch}
 use Rattle.ev_cmds.specs.declared.sheet.Command.{Command}
-use Rattle.ev_cmds.proofs.Placing.{lies, lies_in, lies_before, lies_after, at_is}
+use Rattle.ev_cmds.specs.Patches.{lies}
+use Rattle.ev_cmds.proofs.Placing.{lies_in, lies_before, lies_after, at_is}
 
 sum_add : (n : ℕ) (f g : ℕ → ℕ) → sum_below n (λ k. f k + g k) ≡ sum_below n f + sum_below n g
 unfolding sum_below

@@ -87,7 +87,7 @@ hidden_same (l ∷ looks) x y a b all h p q =
     (λ (above : is_hidden looks x y ≡ true). hidden_same looks x y (painted l x y a) (painted l x y b) all.1 above (all.0.keeps x y a p) (all.0.keeps x y b q))
     (or_cases _ _ h)
 
-covers : (l : Look) (hides : Bool) (x y : ℕ) → hides ≡ replaces l → holds (opaque_area l) (pos x) (pos y) ≡ (hides && holds l.area (pos x) (pos y))
+pub covers : (l : Look) (hides : Bool) (x y : ℕ) → hides ≡ replaces l → holds (opaque_area l) (pos x) (pos y) ≡ (hides && holds l.area (pos x) (pos y))
 covers l true x y e = ap (λ (b : Bool). holds (if b then l.area else nowhere) (pos x) (pos y)) (sym e)
 covers l false x y e = ap (λ (b : Bool). holds (if b then l.area else nowhere) (pos x) (pos y)) (sym e) ∙ no_holds (pos x) (pos y)
 

@@ -6,3 +6,10 @@ pub mod Culling
 pub mod Counting
 pub mod Hiding
 pub mod Filling
+pub mod Fitting
+pub mod Seeing
+pub mod Taking
+pub mod Moving
+pub mod Baring
+pub mod Framing
+pub mod Cutting

@@ -10,7 +10,8 @@ use Rattle.std.proofs.lemmas.Nat.Bits.{bit_at_and, bit_at_or, bit_at_not, bit_at
 use Rattle.ev_cmds.specs.Masks.{is_set, has_bit, Adds, Cuts}
 use Rattle.ev_cmds.specs.Patches.{has_place}
 use Rattle.ev_cmds.specs.declared.patch.Patch.{Patch}
-use Rattle.ev_cmds.proofs.Placing.{lies, lies_in, lies_before, lies_after}
+use Rattle.ev_cmds.specs.Patches.{lies}
+use Rattle.ev_cmds.proofs.Placing.{lies_in, lies_before, lies_after}
 
 -- the word of a stretch of columns
 pub shifts : (left right : ℕ) → left ≤ right → right ≤ 64 → (1 * 2 ^ left % 340282366920938463463374607431768211456 ≡ 2 ^ left) × (1 * 2 ^ right % 340282366920938463463374607431768211456 ≡ 2 ^ right) × (2 ^ left ≤ 2 ^ right) × (2 ^ right < 2 ^ 65)

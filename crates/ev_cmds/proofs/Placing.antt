@@ -1,12 +1,8 @@
 -- Places in patches.
 use Rattle.std.proofs.Common.{ℕ, ◌≡◌, ◌+◌, ◌*◌, ◌<◌, ◌≤◌, Bool, true, false, ◌&&◌, nat_le, nat_lt, List, [], ◌∷◌, ◌++◌, refl, ap, ap₂, ◌∙◌, arith}
 use Rattle.std.proofs.lemmas.Bool.{lt-ltb, le-ltb, le-leb, lt-leb}
-use Rattle.ev_cmds.specs.Patches.{has_place, one, times}
+use Rattle.ev_cmds.specs.Patches.{lies, has_place, one, times}
 use Rattle.ev_cmds.specs.declared.patch.Patch.{Patch}
-
--- whether a place lies from `from` on and before `to`
-abbrev pub lies : ℕ → ℕ → ℕ → Bool
-lies from to at = nat_le from at && nat_lt at to
 
 pub lies_in : (from to at : ℕ) → from ≤ at → at < to → lies from to at ≡ true
 lies_in from to at low high = ap₂ ◌&&◌ (le-leb from at low) (lt-ltb at to high)

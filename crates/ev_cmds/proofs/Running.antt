@@ -12,7 +12,8 @@ use Rattle.ev_cmds.specs.Masks.{is_set, has_bit, IsRun, IsNextRun, in_runs, Adds
 use Rattle.ev_cmds.specs.Patches.{has_place, one, times, IsPatch}
 use Rattle.ev_cmds.specs.declared.patch.Patch.{Patch}
 use Rattle.ev_cmds.specs.declared.mask.Run.{Run}
-use Rattle.ev_cmds.proofs.Placing.{lies, lies_in, lies_before, lies_after, times-append}
+use Rattle.ev_cmds.specs.Patches.{lies}
+use Rattle.ev_cmds.proofs.Placing.{lies_in, lies_before, lies_after, times-append}
 use Rattle.ev_cmds.proofs.Masking.{set_and, set_columns, and_false, none_between, down_to}
 
 -- the bits of a word that was shifted

@@ -3,3 +3,6 @@ pub mod Patches
 pub mod Masks
 pub mod Edges
 pub mod Sheets
+pub mod Jobs
+pub mod Frames
+pub mod Cuts

@@ -22,13 +22,6 @@ count_of rows = sum_below 64 (λ y. sum_below 64 (λ x. one (has_bit rows x y)))
 pub record IsEmpty (rows : List ℕ) : Type 0 where
   pub none : (x y : ℕ) → y < 64 → has_bit rows x y ≡ false
 
--- the edges of a patch stand in order; it may hold no place
-pub record IsPatchOrEmpty (p : Patch) : Type 0 where
-  pub across : p.left ≤ p.right
-  pub right : p.right ≤ 64
-  pub down : p.top ≤ p.bottom
-  pub bottom : p.bottom ≤ 64
-
 -- the new set has the places of a patch as well
 pub record Adds (patch : Patch) (old new : List ℕ) : Type 0 where
   pub places : (x y : ℕ) → x < 64 → y < 64 → has_bit new x y ≡ (has_bit old x y || has_place patch x y)

@@ -2,6 +2,10 @@
 use Rattle.std.specs.Prelude.{ℕ, ◌+◌, ◌-◌, ◌*◌, ◌<◌, ◌≤◌, Bool, ◌&&◌, nat_le, nat_lt, if◌then◌else◌, List, [], ◌∷◌}
 use Rattle.ev_cmds.specs.declared.patch.Patch.{Patch}
 
+-- whether a place lies from `from` on and before `to`
+abbrev pub lies : ℕ → ℕ → ℕ → Bool
+lies from to at = nat_le from at && nat_lt at to
+
 -- whether a patch holds column x of row y
 abbrev pub has_place : Patch → ℕ → ℕ → Bool
 has_place p x y = nat_le p.left x && nat_lt x p.right && (nat_le p.top y && nat_lt y p.bottom)

@@ -4,6 +4,7 @@ use Rattle.std.specs.List.{AllByRecursion}
 use Rattle.ev_argb.specs.Argb.{Argb, tint, IsPremultiplied}
 use Rattle.ev_geom.specs.Area.{Area, holds}
 use Rattle.ev_region.specs.Count.{sum_below}
+use Rattle.ev_model.specs.Capture.{IsInside}
 use Rattle.ev_model.specs.Limits.{IsObject}
 use Rattle.ev_model.specs.Look.{Look, look_of}
 use Rattle.ev_model.specs.Paint.{put as put_pixel, put_sample, sample_at, painted}
@@ -109,6 +110,19 @@ pub record IsSheetOn (left top w h : ℕ) (sheet : Sheet) : Type 0 where
 -- a patch is what the tile at this place sees of an area, in the work region
 pub record Sees (work : ℤ → ℤ → Bool) (area : Area) (left top : ℕ) (patch : Patch) : Type 0 where
   pub places : (x y : ℕ) → x < 64 → y < 64 → work (pos (left + x)) (pos (top + y)) ≡ true → has_place patch x y ≡ holds area (pos (left + x)) (pos (top + y))
+
+-- a patch has only places of an area, on a plane of w by h of the tile at this place
+pub record LiesInArea (left top w h : ℕ) (area : Area) (patch : Patch) : Type 0 where
+  pub column : left ≤ 4096
+  pub row : top ≤ 4096
+  pub right : patch.right ≤ w
+  pub bottom : patch.bottom ≤ h
+  pub held : (x y : ℕ) → has_place patch x y ≡ true → holds area (pos (left + x)) (pos (top + y)) ≡ true
+
+-- Wherever the old commands fitted, the new ones do, with those of a record of whose area the tile sees a patch.
+pub record StillFit (r : Record) (area : Patch) (commands new_commands : List Command) : Type 0 where
+  pub more : (left top w h : ℕ) → IsPaintable (look_of r) → IsInside r.object.value.rect r.area → IsObject r.object.value → LiesInArea left top w h r.area area
+      → All (Fits left top w h) commands → All (Fits left top w h) new_commands
 
 -- Whatever looks the old bare places and commands showed, the new ones show these and a record below them, of which the tile sees a patch.
 pub record StillShows (r : Record) (area : Patch) (bare : List ℕ) (commands : List Command) (new_bare : List ℕ) (new_commands : List Command) : Type 0 where

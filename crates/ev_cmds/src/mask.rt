@@ -1,6 +1,7 @@
 // Sets of places of a tile.
 ghost use Rattle.std.specs.Prelude.{◌≡◌, ℕ, ◌<◌, ◌≤◌, ◌-◌, ◌^◌, OnOk, slice_index, bit_and};
 ghost use Rattle.ev_cmds.specs.Masks as masks;
+ghost use Rattle.ev_cmds.specs.Patches as patches;
 
 use crate::{NoMemory, Patch};
 use std::marker::Model;
@@ -48,7 +49,7 @@ impl Mask {
 
     // Adds the places of a patch.
     pub(crate) fn add(&mut self, patch: Patch)
-        requires { masks.IsPatchOrEmpty patch }
+        requires { patches.IsPatch patch }
         ensures { masks.Adds patch self.old self.new }
     {
         let columns = columns(patch.left, patch.right);
@@ -59,7 +60,7 @@ impl Mask {
 
     // Takes the places of a patch away.
     pub(crate) fn cut(&mut self, patch: Patch)
-        requires { masks.IsPatchOrEmpty patch }
+        requires { patches.IsPatch patch }
         ensures { masks.Cuts patch self.old self.new }
     {
         let others = !columns(patch.left, patch.right);
@@ -70,7 +71,7 @@ impl Mask {
 
     // Adds patches that hold the places of the set in an area, each of them once.
     pub(crate) fn push_parts(&self, area: Patch, into: &mut Vec<Patch>) -> Result<(), NoMemory>
-        requires { masks.IsPatchOrEmpty area }
+        requires { patches.IsPatch area }
         ensures { OnOk result (masks.AddsParts self.now area into.old.items into.new.items) }
     {
         let columns = columns(area.left, area.right);

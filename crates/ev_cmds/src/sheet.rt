@@ -1,6 +1,6 @@
 // What is painted on one tile.
 ghost use Rattle.std.specs.Prelude.{◌≡◌, ◌++◌, ◌≤◌, [], map, OnOk, IfOk};
-ghost use Rattle.ev_cmds.specs.Masks as masks;
+ghost use Rattle.ev_cmds.specs.Patches as patches;
 ghost use Rattle.ev_cmds.specs.Sheets as sheets;
 
 use crate::opaque::replaces;
@@ -38,8 +38,9 @@ impl Sheet {
         area: Patch,
         spare: &mut Vec<Patch>,
     ) -> Result<(), NoMemory>
-        requires { masks.IsPatchOrEmpty area }
+        requires { patches.IsPatch area }
         ensures shows { OnOk result (sheets.StillShows one.now area self.old.bare self.old.commands.items self.new.bare self.new.commands.items) }
+        ensures fits { OnOk result (sheets.StillFit one.now area self.old.commands.items self.new.commands.items) }
     {
         spare.clear();
         self.bare.push_parts(area, spare)?;
