@@ -13,7 +13,7 @@ mod table;
 mod tile;
 
 pub use commands::{Commands, tiles_paint_captures};
-pub use mask::{Mask, Run};
+pub use mask::{Mask, Run, next_run};
 pub use opaque::opaque_area;
 pub use patch::Patch;
 pub use sheet::{Command, Sheet};

@@ -1,0 +1,6 @@
+pub mod Patching
+pub mod Baring
+pub mod Sheeting
+pub mod Imaging
+pub mod Texting
+pub mod Drawing

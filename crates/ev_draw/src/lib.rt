@@ -1,0 +1,13 @@
+//! Drawing: the commands of a tile, carried out on a plane.
+#![tactic(auto)]
+
+mod bare;
+mod command;
+mod image;
+mod place;
+mod sheet;
+mod solid;
+mod span;
+mod text;
+
+pub use sheet::draw_sheet;
