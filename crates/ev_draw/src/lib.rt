@@ -8,6 +8,8 @@ mod place;
 mod sheet;
 mod solid;
 mod span;
+#[cfg(test)]
+mod tests;
 mod text;
 
 pub use sheet::draw_sheet;
