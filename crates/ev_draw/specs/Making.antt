@@ -103,6 +103,10 @@ shown_by c left top x y value = put_sample (op_of c) c.color (sample_at c.object
 pub record ShowsText (o : Object) (font : Glyphs) (text : List ℕ) : Type 0 where
   pub samples : (w h i j : ℕ) → sample o.content w h i j ≡ text_sample font text i j
 
+-- the samples of an object from its column i on are those of a text in this font from column x on
+pub record ShowsFrom (o : Object) (i : ℕ) (font : Glyphs) (text : List ℕ) (x : ℕ) : Type 0 where
+  pub samples : (w h k j : ℕ) → sample o.content w h (i + k) j ≡ text_sample font text (x + k) j
+
 -- In the work region a plane at this place has what all looks paint on a clear canvas, elsewhere it has what it had, and no more
 -- pixels count as painted than the tile may cost.
 pub record IsDrawn (work : ℤ → ℤ → Bool) (looks : List Look) (left top : ℕ) (old new : Tile) : Type 0 where

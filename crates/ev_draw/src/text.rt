@@ -1,12 +1,12 @@
 // A text on a patch.
-ghost use Rattle.std.specs.Prelude.{◌≡◌, ℕ, ◌+◌, ◌-◌, ◌<◌, ◌≤◌, ◌^◌, Bool, false, length, get_or, if◌then◌else◌};
+ghost use Rattle.std.specs.Prelude.{◌≡◌, ℕ, ◌+◌, ◌-◌, ◌<◌, ◌≤◌, ◌^◌, Bool, false, length, get_or, if◌then◌else◌, pos, ◌-ℤ◌, unsigned_abs};
 ghost use Rattle.ev_cmds.specs.Patches.{size_of};
 ghost use Rattle.ev_cmds.specs.Sheets.{Fits};
 ghost use Rattle.ev_model.specs.Glyphs.{IsText};
 ghost use Rattle.ev_model.specs.Paint.{put, put_sample};
 ghost use Rattle.ev_model.specs.Sample.{text_sample};
 ghost use Rattle.ev_model.specs.declared.content.Content.TheVariants.{Text};
-ghost use Rattle.ev_draw.specs.Making.{Paints, span, line_of, shown_by, put_where, CarriesOut, ShowsText};
+ghost use Rattle.ev_draw.specs.Making.{Paints, span, line_of, shown_by, put_where, CarriesOut, ShowsText, ShowsFrom};
 
 use crate::command::{op_of, white_in};
 use crate::place::{column_of, row_of};
@@ -14,7 +14,7 @@ use crate::span::put_color;
 use ev_argb::{Pixel, Plane};
 use ev_cmds::Command;
 use ev_model::{Font, Op, TextPart};
-use ev_text::text_row;
+use ev_text::{text_from, text_row};
 
 // Carries out a command whose object is a text, which shows nothing without a font.
 pub(crate) fn put_text_part(
@@ -37,7 +37,7 @@ pub(crate) fn put_text_part(
     }
 }
 
-// Carries out a command whose object shows a text.
+// Carries out a command whose object shows a text. The glyph at its first column is found once.
 fn put_text(command: &Command, font: &Font, text: &[u8], left: u32, top: u32, plane: &mut Plane)
     requires fits { Fits left top plane.old.w plane.old.h command.now }
     requires small { plane.old.w ≤ 64 }
@@ -49,11 +49,16 @@ fn put_text(command: &Command, font: &Font, text: &[u8], left: u32, top: u32, pl
     let mut bits = [false; 64];
     let patch = command.patch;
     let width = usize::from(patch.right - patch.left);
+    let x = u32::from(patch.left);
+    let object = command.object.get();
+    let i = column_of(&object.rect, left + x);
+    let (rest, column) = text_from(font, text, i);
     for y in patch.top..patch.bottom {
         put_text_line(
             command,
             font,
-            text,
+            rest,
+            column,
             left,
             top,
             u32::from(y),
@@ -63,11 +68,13 @@ fn put_text(command: &Command, font: &Font, text: &[u8], left: u32, top: u32, pl
     }
 }
 
-// Puts row y of a command's patch, whose object shows a text. Its samples are found in `bits`.
+// Puts row y of a command's patch, whose object shows from there on a text from column i on. Its
+// samples are found in `bits`.
 fn put_text_line(
     command: &Command,
     font: &Font,
     text: &[u8],
+    i: u32,
     left: u32,
     top: u32,
     y: u32,
@@ -77,7 +84,8 @@ fn put_text_line(
     requires fits { Fits left top plane.old.w plane.old.h command.now }
     requires small { plane.old.w ≤ 64 }
     requires text { IsText text.now }
-    requires content { ShowsText command.now.object.value font.now text.now }
+    requires column { i ≤ 2000000 }
+    requires content { ShowsFrom command.now.object.value (unsigned_abs (pos (left + command.now.patch.left) -ℤ command.now.object.value.rect.x)) font.now text.now i }
     requires line { (command.now.patch.top ≤ y) × (y < command.now.patch.bottom) }
     requires row { length bits.old ≡ command.now.patch.right - command.now.patch.left }
     requires count { plane.old.painted + length bits.old < 2 ^ 64 }
@@ -85,7 +93,6 @@ fn put_text_line(
 {
     let object = command.object.get();
     let x = u32::from(command.patch.left);
-    let i = column_of(&object.rect, left + x);
     let j = row_of(&object.rect, top + y);
     put_text_row(
         font,
