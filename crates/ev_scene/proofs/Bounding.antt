@@ -7,7 +7,7 @@ use Rattle.ev_geom.specs.Area.{Area, meet, common}
 use Rattle.ev_geom.proofs.Meeting.{meet_of, none_meet_w, none_meet_h}
 use Rattle.ev_model.specs.Capture.{IsInside, IsLookOn}
 use Rattle.ev_model.specs.Limits.{IsObject}
-use Rattle.ev_model.specs.Look.{Look, look, looks, look_of, has_pixels}
+use Rattle.ev_model.specs.Look.{look, looks, look_of, has_pixels}
 use Rattle.ev_model.specs.Stage.{Stage, canvas}
 use Rattle.ev_model.specs.Up.{cut, clip, clips, colour, over_it, is_shown, is_smart, is_drawn}
 use Rattle.ev_model.specs.declared.object.Object.{Object}
