@@ -4,6 +4,7 @@
 mod bare;
 mod command;
 mod image;
+mod job;
 mod place;
 mod sheet;
 mod solid;
@@ -12,4 +13,4 @@ mod span;
 mod tests;
 mod text;
 
-pub use sheet::draw_sheet;
+pub use job::{TileDone, TileJob, draw};

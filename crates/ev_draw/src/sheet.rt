@@ -11,10 +11,10 @@ use crate::command::carry_out;
 use ev_argb::Plane;
 use ev_cmds::{Command, Sheet};
 
-/// Draws a tile on a plane: clears what is bare, then carries out the commands from the lowest to the
-/// topmost. In the work region the plane then has what all records paint there, and elsewhere what it
-/// had (docs/CANVAS.md, Painting). It takes no memory.
-pub fn draw_sheet(sheet: &Sheet, left: u32, top: u32, plane: &mut Plane)
+// Draws a tile on a plane: clears what is bare, then carries out the commands from the lowest to the
+// topmost. In the work region the plane then has what all records paint there, and elsewhere what it
+// had (docs/CANVAS.md, Painting). It takes no memory.
+pub(crate) fn draw_sheet(sheet: &Sheet, left: u32, top: u32, plane: &mut Plane)
     requires sheet { IsSheetOn left top plane.old.w plane.old.h sheet.now }
     requires width { plane.old.w ≤ 64 }
     requires height { plane.old.h ≤ 64 }
