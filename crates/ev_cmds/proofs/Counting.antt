@@ -1,14 +1,17 @@
 -- Patches hold as many places as their sizes say, and a tile costs no more than its places may.
-use Rattle.std.proofs.Common.{ℕ, zero, suc, ◌≡◌, ◌+◌, ◌-◌, ◌*◌, ◌<◌, ◌≤◌, min, Bool, true, false, not, ◌&&◌, List, [], ◌∷◌, refl, ap, ap₂, ◌∙◌, ⊎_elim, arith}
+use Rattle.std.proofs.Common.{ℕ, zero, suc, ◌≡◌, ◌+◌, ◌-◌, ◌*◌, ◌<◌, ◌≤◌, min, Bool, true, false, not, ◌&&◌, List, [], ◌∷◌, length, All, refl, ap, ap₂, ◌∙◌, ⊎_elim, arith}
 use Rattle.std.specs.Prelude.{if◌then◌else◌, ℤ, pos}
 use Rattle.std.specs.List.{AllByRecursion}
 use Rattle.std.proofs.lemmas.Bool.{cases_lt}
+use Rattle.std.proofs.lemmas.List.Elements.{All-head, All-tail}
+use Rattle.ev_geom.specs.Area.{holds}
 use Rattle.ev_region.specs.Count.{sum_below}
 use Rattle.ev_model.specs.Look.{Look}
+use Rattle.ev_cmds.specs.Cuts.{most_painted}
 use Rattle.ev_cmds.specs.Opaque.{is_hidden}
 use Rattle.ev_cmds.specs.Masks.{has_bit, count_of}
 use Rattle.ev_cmds.specs.Patches.{has_place, one, times, total, size_of, IsPatch}
-use Rattle.ev_cmds.specs.Sheets.{layers, cost, patches_of, Shows}
+use Rattle.ev_cmds.specs.Sheets.{layers, cost_at, cost, patches_of, Fits, Shows}
 use Rattle.ev_cmds.specs.declared.patch.Patch.{Patch}
 use Rattle.ev_cmds.specs.declared.sheet.Command.{Command}
 use Rattle.ev_cmds.specs.Patches.{lies}
@@ -99,3 +102,50 @@ within_cost work looks left top bare commands patches shows =
     place_cost (work (pos (left + x)) (pos (top + y))) (is_hidden looks (left + x) (top + y)) (has_bit bare x y) (times (patches_of commands) x y) (layers looks (left + x) (top + y))
     (shows.bare_places x y right low) (shows.command_places x y right low))) in
     omega (arith, c, both, less)
+
+-- a sum of one number again and again
+sum_of : (n m : ℕ) → sum_below n (λ k. m) ≡ n * m
+unfolding sum_below
+sum_of zero m = omega arith
+sum_of (suc n) m = let rest = sum_of n m in omega arith
+
+one_le : (b : Bool) → one b ≤ 1
+one_le true = omega arith
+one_le false = omega arith
+
+layers_le : (looks : List Look) (x y : ℕ) → layers looks x y ≤ length looks
+unfolding layers
+layers_le [] x y = omega arith
+layers_le (l ∷ above) x y =
+    let here = one_le (holds l.area (pos x) (pos y) && not (is_hidden above x y)) in
+    let rest = layers_le above x y in
+    omega arith
+
+cost_at_le : (work : ℤ → ℤ → Bool) (looks : List Look) (x y : ℕ) → cost_at work looks x y ≤ 1 + length looks
+cost_at_le work looks x y = cases (work (pos x) (pos y))
+  where
+    cases : (b : Bool) → (if b then 1 + layers looks x y else 0) ≤ 1 + length looks
+    cases true = let all = layers_le looks x y in omega arith
+    cases false = omega arith
+
+-- a tile costs at most what clearing it and painting each look on all of it does
+cost_le : (work : ℤ → ℤ → Bool) (looks : List Look) (left top : ℕ) → cost work looks left top ≤ 64 * (64 * (1 + length looks))
+cost_le work looks left top =
+    let row = sum_of 64 (1 + length looks) in
+    let all = sum_of 64 (sum_below 64 (λ x. 1 + length looks)) in
+    let less : cost work looks left top ≤ sum_below 64 (λ y. sum_below 64 (λ x. 1 + length looks)) =
+    sum_le 64 _ _ (λ y low. sum_le 64 _ _ (λ x right. cost_at_le work looks (left + x) (top + y))) in
+    omega (arith, row, all, less)
+
+-- what fits has patches of a tile
+pub patches_good : (left top w h : ℕ) (commands : List Command) → All (Fits left top w h) commands → AllByRecursion IsPatch (patches_of commands)
+patches_good left top w h [] all = tt
+patches_good left top w h (c ∷ cs) all = ((All-head (Fits left top w h) c cs all).patch, patches_good left top w h cs (All-tail (Fits left top w h) c cs all))
+
+-- commands that show at most 65,536 looks don't paint too many pixels
+pub few_painted : (work : ℤ → ℤ → Bool) (looks : List Look) (left top w h : ℕ) (bare : List ℕ) (commands : List Command) → length looks ≤ 65536 → All (Fits left top w h) commands
+    → Shows work looks left top bare commands → count_of bare + total (patches_of commands) ≤ most_painted
+few_painted work looks left top w h bare commands few fits shows =
+    let within = within_cost work looks left top bare commands (patches_good left top w h commands fits) shows in
+    let most = cost_le work looks left top in
+    omega (arith, within, most, few)

@@ -1,6 +1,6 @@
 -- Frames whose tiles took in all records.
 use Rattle.std.proofs.Common.{ℕ, ◌≡◌, ◌+◌, ◌-◌, ◌/◌, ◌%◌, ◌<◌, ◌≤◌, Bool, true, not, ℤ, pos, List, ◌∷◌, map, length, get_or, drop, All, refl, sym, ap, ◌∙◌, subst, ⊎_elim, arith}
-use Rattle.std.proofs.lemmas.List.{drop_more}
+use Rattle.std.proofs.lemmas.List.{drop_more, length-drop, length-map}
 use Rattle.std.proofs.Math.Seq.{drop-length}
 use Rattle.std.proofs.lemmas.Bool.{cases_lt, and_parts}
 use Rattle.ev_argb.specs.Argb.{clear, IsPremultiplied}
@@ -10,7 +10,7 @@ use Rattle.ev_region.specs.Count.{LiesWithin}
 use Rattle.ev_model.specs.Capture.{Capture, capture_on}
 use Rattle.ev_model.specs.Look.{Look, look_of}
 use Rattle.ev_model.specs.declared.scene.Record.{Record}
-use Rattle.ev_cmds.specs.Cuts.{Cut, IsCut, IsCutOf, PaintsAll}
+use Rattle.ev_cmds.specs.Cuts.{Cut, IsCut, IsCutOf, IsJobOn, PaintsAll}
 use Rattle.ev_cmds.specs.Frames.{IsOpened, Takes, HasTaken}
 use Rattle.ev_cmds.specs.Jobs.{IsTileOf}
 use Rattle.ev_cmds.specs.Masks.{has_bit}
@@ -18,10 +18,14 @@ use Rattle.ev_cmds.specs.Opaque.{is_hidden}
 use Rattle.ev_cmds.specs.Sheets.{LiesOn}
 use Rattle.ev_cmds.specs.declared.frame.Frame.{Frame}
 use Rattle.ev_cmds.specs.declared.tile.TileCommands.{TileCommands}
+use Rattle.ev_cmds.proofs.Counting.{few_painted}
 
 -- the records from the i-th on
 abbrev pub looks_from : List Record → ℕ → List Look
 looks_from records i = map look_of (drop i records)
+
+pub few_from : (records : List Record) (i : ℕ) → length records ≤ 65536 → length (looks_from records i) ≤ 65536
+few_from records i few = let same = length-map (drop i records) look_of in let rest = length-drop i records in omega arith
 
 pub nothing_taken : (work : ℤ → ℤ → Bool) (records : List Record) (i w h : ℕ) (frame : Frame) → i ≡ length records → w ≤ 4096 → h ≤ 4096 → IsOpened work w h frame → HasTaken work (looks_from records i) w h frame
 nothing_taken work records i w h frame end wide tall opened =
@@ -68,12 +72,19 @@ bare_on work looks w h job within tile = record {
     in_work : (x y : ℕ) → x < 64 → y < 64 → has_bit job.sheet.bare x y ≡ true → work (pos (job.left + x)) (pos (job.top + y)) ≡ true
     in_work x y wide tall bare = (and_parts (work (pos (job.left + x)) (pos (job.top + y))) (not (is_hidden looks (job.left + x) (job.top + y))) (sym (tile.shows.bare_places x y wide tall) ∙ bare)).0
 
-pub is_cut : (work : ℤ → ℤ → Bool) (looks : List Look) (w h : ℕ) (frame : Frame) → w ≤ 4096 → h ≤ 4096 → LiesWithin w h work → HasTaken work looks w h frame → IsCut (record { w = w; h = h; jobs = frame.jobs.items })
-is_cut work looks w h frame wide tall within taken = record {
+pub is_cut : (work : ℤ → ℤ → Bool) (looks : List Look) (w h : ℕ) (frame : Frame) → w ≤ 4096 → h ≤ 4096 → length looks ≤ 65536 → LiesWithin w h work → HasTaken work looks w h frame → IsCut (record { w = w; h = h; jobs = frame.jobs.items })
+is_cut work looks w h frame wide tall few within taken = record {
   width = wide;
   height = tall;
-  jobs = λ k d low. record { placed = (taken.each k d low).placed; sheet = record { bare = bare_on work looks w h (get_or frame.jobs.items k d) within (taken.each k d low); commands = (taken.each k d low).fits } };
+  jobs = λ k d low. is_job (get_or frame.jobs.items k d) (taken.each k d low);
 }
+  where
+    is_job : (job : TileCommands) → IsTileOf work looks w h job → IsJobOn w h job
+    is_job job tile = record {
+      placed = tile.placed;
+      sheet = record { bare = bare_on work looks w h job within tile; commands = tile.fits };
+      few = few_painted work looks job.left job.top _ _ job.sheet.bare job.sheet.commands.items few tile.fits tile.shows;
+    }
 
 pub is_cut_of : (work : ℤ → ℤ → Bool) (records : List Record) (i w h : ℕ) (frame : Frame) → i ≡ 0 → HasTaken work (looks_from records i) w h frame → IsCutOf work (capture_on w h records) (record { w = w; h = h; jobs = frame.jobs.items })
 is_cut_of work records i w h frame none taken =

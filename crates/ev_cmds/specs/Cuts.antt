@@ -1,12 +1,14 @@
 -- What is painted on all tiles of a frame.
-use Rattle.std.specs.Prelude.{◌≡◌, ℕ, ◌+◌, ◌/◌, ◌%◌, ◌<◌, ◌≤◌, ℤ, pos, Bool, true, List, length, get_or, All}
+use Rattle.std.specs.Prelude.{◌≡◌, ℕ, ◌+◌, ◌*◌, ◌/◌, ◌%◌, ◌<◌, ◌≤◌, ℤ, pos, Bool, true, List, length, get_or, All}
 use Rattle.ev_argb.specs.Argb.{clear}
 use Rattle.ev_argb.specs.Grid.{side_of}
 use Rattle.ev_geom.specs.Tiles.{tiles_along, jobs_of}
 use Rattle.ev_model.specs.Capture.{Capture}
 use Rattle.ev_model.specs.Paint.{paint}
 use Rattle.ev_cmds.specs.Jobs.{IsPlaced, tiles_of}
-use Rattle.ev_cmds.specs.Sheets.{Shows, IsSheetOn, put_all}
+use Rattle.ev_cmds.specs.Masks.{count_of}
+use Rattle.ev_cmds.specs.Patches.{total}
+use Rattle.ev_cmds.specs.Sheets.{Shows, IsSheetOn, put_all, patches_of}
 use Rattle.ev_cmds.specs.declared.tile.TileCommands.{TileCommands}
 
 -- a canvas of w by h, and what is painted on those of its tiles that are drawn
@@ -15,10 +17,15 @@ pub record Cut : Type 0 where
   pub h : ℕ
   pub jobs : List TileCommands
 
--- a sheet for a tile of a canvas of w by h, in its place
+-- how many pixels may be painted on a tile: each place is cleared, and then painted once by each of 65,536 records
+abbrev pub most_painted : ℕ
+most_painted = 64 * 64 * (1 + 65536)
+
+-- a sheet for a tile of a canvas of w by h, in its place, that doesn't paint too many pixels
 pub record IsJobOn (w h : ℕ) (job : TileCommands) : Type 0 where
   pub placed : IsPlaced w h job
   pub sheet : IsSheetOn job.left job.top (side_of w (job.tile % tiles_along w)) (side_of h (job.tile / tiles_along w)) job.sheet
+  pub few : count_of job.sheet.bare + total (patches_of job.sheet.commands.items) ≤ most_painted
 
 pub record IsCut (cut : Cut) : Type 0 where
   pub width : cut.w ≤ 4096

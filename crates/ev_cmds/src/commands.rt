@@ -34,9 +34,9 @@ impl Model for Commands {
 }
 
 impl Commands {
-    /// The commands of a frame that paints these records, the lowest first, on a work region of a
-    /// canvas of w by h pixels, on which the records and the work region lie. It shares the objects.
-    /// `NoMemory` where there is no room; nothing else changes then.
+    /// The commands of a frame that paints these records, of which there are at most 65,536, the lowest
+    /// first, on a work region of a canvas of w by h pixels, on which the records and the work region
+    /// lie. It shares the objects. `NoMemory` where there is no room; nothing else changes then.
     pub fn build(
         alloc: Global,
         records: &[Record],
@@ -46,6 +46,7 @@ impl Commands {
     ) -> Result<Commands, NoMemory>
         requires width { w ≤ 4096 }
         requires height { h ≤ 4096 }
+        requires few { length records.now ≤ 65536 }
         requires looks { All (λ r. IsLookOn w h (look_of r)) records.now }
         requires work { LiesWithin w h (has_pixel work.now) }
         ensures { IfOk result (cuts.IsCutOf (has_pixel work.now) (capture_on w h records.now)) }

@@ -1,17 +1,14 @@
 -- What is cleared and carried out is what all looks paint.
-use Rattle.std.proofs.Common.{ℕ, ◌≡◌, ◌+◌, ◌<◌, ◌≤◌, ℤ, pos, Bool, true, false, not, ◌&&◌, List, [], ◌∷◌, refl, ap, ◌∙◌, arith}
+use Rattle.std.proofs.Common.{ℕ, ◌≡◌, ◌+◌, ◌<◌, ◌≤◌, ℤ, pos, Bool, true, false, not, ◌&&◌, List, refl, ap, ◌∙◌, arith}
 use Rattle.std.specs.Prelude.{if◌then◌else◌, All}
-use Rattle.std.specs.List.{AllByRecursion}
-use Rattle.std.proofs.lemmas.List.Elements.{All-head, All-tail}
 use Rattle.ev_argb.specs.Argb.{Argb, clear, IsPremultiplied}
 use Rattle.ev_argb.specs.Tile.{Tile, tile_at}
 use Rattle.ev_model.specs.Look.{Look}
 use Rattle.ev_cmds.specs.Opaque.{is_hidden}
 use Rattle.ev_cmds.specs.Masks.{has_bit}
-use Rattle.ev_cmds.specs.Patches.{IsPatch}
-use Rattle.ev_cmds.specs.Sheets.{put_all, patches_of, painted_looks, Fits, Shows}
+use Rattle.ev_cmds.specs.Sheets.{put_all, painted_looks, Fits, Shows}
 use Rattle.ev_cmds.specs.declared.sheet.Command.{Command}
-use Rattle.ev_cmds.proofs.Counting.{within_cost}
+use Rattle.ev_cmds.proofs.Counting.{patches_good, within_cost}
 use Rattle.ev_draw.specs.Making.{CarriesOutAll, Clears, IsDrawn, cleared_at}
 
 clear_good : IsPremultiplied clear
@@ -36,10 +33,6 @@ kept : (work : ℤ → ℤ → Bool) (looks : List Look) (left top : ℕ) (bare 
 kept work looks left top bare commands x y value s right bottom w =
     let none : has_bit bare x y ≡ false = s.bare_places x y right bottom ∙ ap (λ (b : Bool). b && not (is_hidden looks (left + x) (top + y))) w in
     ap (λ (b : Bool). put_all commands left top x y (if b then clear else value)) none ∙ s.outside x y value right bottom w
-
-patches_good : (left top w h : ℕ) (commands : List Command) → All (Fits left top w h) commands → AllByRecursion IsPatch (patches_of commands)
-patches_good left top w h [] all = tt
-patches_good left top w h (c ∷ cs) all = ((All-head (Fits left top w h) c cs all).patch, patches_good left top w h cs (All-tail (Fits left top w h) c cs all))
 
 pub drawn : (work : ℤ → ℤ → Bool) (looks : List Look) (left top : ℕ) (bare : List ℕ) (commands : List Command) (old now new : Tile) → old.w ≤ 64 → old.h ≤ 64 → All (Fits left top old.w old.h) commands → Shows work looks left top bare commands → Clears bare old now → CarriesOutAll commands left top now new → IsDrawn work looks left top old new
 drawn work looks left top bare commands old now new wide tall fits shows cleared carried =

@@ -49,7 +49,7 @@ impl Model for TileDone {
 }
 
 impl TileJob {
-    /// The job to draw the k-th of a frame's tiles on a plane of its size, whose count has room for it.
+    /// The job to draw the k-th of a frame's tiles on a plane of its size, whose count is below 2^63.
     pub fn new(commands: Arc<Commands, Global>, k: usize, plane: Plane) -> TileJob
         requires { jobs.IsJob (record { cut = arc_value commands; k = k; plane = plane }) }
         ensures { result ≡ record { cut = arc_value commands; k = k; plane = plane } }
