@@ -1,12 +1,12 @@
 -- Totals that are counted pixel by pixel.
-use Rattle.std.proofs.Common.{◌≡◌, ℕ, zero, suc, ◌+◌, ◌*◌, ◌<◌, ◌≤◌, List, [], ◌∷◌, ◌++◌, length, fold, sum_by, take, get_or, Option, Some, None, refl, ap, ap₂, sym, ◌∙◌, arith}
+use Rattle.std.proofs.Common.{◌≡◌, ℕ, zero, suc, ◌+◌, ◌<◌, List, [], ◌∷◌, ◌++◌, length, fold, sum_by, take, get_or, Option, Some, None, ap, ap₂, sym, ◌∙◌, arith}
 use Rattle.std.specs.List.{flat_map, range_with_len}
 use Rattle.std.proofs.lemmas.List.{take_more, append-nil}
 use Rattle.std.proofs.lemmas.List.Sums.{sum_by-cons}
 use Rattle.std.proofs.lemmas.Grind.{fold-append, flat_map-append}
 use Rattle.ev_argb.specs.Argb.{Argb}
-use Rattle.ev_model.specs.Answer.{Answer, Sum}
-use Rattle.ev_canvas.specs.Totals.{shown_part, channels, weighted, totals}
+use Rattle.ev_model.specs.Answer.{Sum}
+use Rattle.ev_canvas.specs.Totals.{shown_part, weighted, totals}
 use Rattle.ev_script.specs.Totals.{Counts, told, none, with_place}
 
 -- counting pixels on top of totals

@@ -1,19 +1,21 @@
 -- The places of a picture, part of which may be hidden.
-use Rattle.std.proofs.Common.{◌≡◌, ℕ, zero, suc, ◌+◌, ◌<◌, pos, List, [], ◌∷◌, ◌++◌, map, length, get_or, Option, Some, None, cond, refl, sym, ap, ap₂, ◌∙◌, arith}
+use Rattle.std.proofs.Common.{◌≡◌, ℕ, zero, suc, ◌+◌, ◌<◌, List, [], ◌∷◌, ◌++◌, map, get_or, Bool, true, false, Option, Some, None, Ok, Err, cond, refl, sym, ap, ap₂, ◌∙◌, arith}
 use Rattle.std.specs.List.{range_with_len, flat_map}
+use Rattle.std.proofs.lemmas.Option.{none-some}
 use Rattle.std.proofs.lemmas.List.FromFn.{get_or-map-range_with_len, length-map-range_with_len}
 use Rattle.ev_argb.specs.Argb.{Argb, clear}
 use Rattle.ev_argb.specs.Grid.{Grid, pixel_at, row_of}
 use Rattle.ev_geom.specs.Area.{Area}
-use Rattle.ev_geom.specs.Bands.{has_pixel}
-use Rattle.ev_model.specs.Answer.{Answer, DumpRow, Refused}
-use Rattle.ev_model.specs.Paint.{IsRedrawn, paint}
-use Rattle.ev_model.specs.declared.refusal.Refusal.TheVariants.{NoFrame}
-use Rattle.ev_canvas.specs.Starts.{Entry, Latest}
+use Rattle.ev_model.specs.Answer.{Answer, DumpRow}
+use Rattle.ev_model.specs.Paint.{IsRedrawn}
+use Rattle.ev_canvas.specs.Starts.{Entry, Latest, is_running}
 use Rattle.ev_canvas.specs.Totals.{totals}
 use Rattle.ev_canvas.specs.Machine as machine
-use Rattle.ev_canvas.specs.Machine.{State, stays, printed}
+use Rattle.ev_canvas.specs.Frames.{Frames, IsPictureOf, IsDrawnLast, drawn_by, picture_refusal, runs}
+use Rattle.ev_canvas.specs.declared.look.NoPicture.{NoPicture}
+use Rattle.ev_canvas.specs.declared.look.NoPicture.TheVariants as no_picture
 use Rattle.ev_script.specs.Machine.{lost_frames, store_failures}
+use Rattle.ev_script.specs.Told.{of_drawn}
 use Rattle.ev_script.specs.Places.{unhidden, unhidden_row, place_row, places}
 
 -- two functions that agree below a bound make the same list of a range below it
@@ -36,25 +38,25 @@ row_places hidden grid y =
     (λ x inside. ap (unhidden hidden x y) (get_or-map-range_with_len (λ x. pixel_at grid x y) 0 grid.w x x clear inside (omega arith)))
 
 -- the rows of a redrawn picture are those of the start that it shows
-same_row : (entry : Entry) (grid : Grid) (y : ℕ) → IsRedrawn entry.stage grid → y < entry.stage.h → place_row entry.hidden grid y ≡ machine.place_row entry y
+same_row : (entry : Entry) (grid : Grid) (y : ℕ) → IsRedrawn entry.capture grid → y < entry.capture.h → place_row entry.hidden grid y ≡ machine.place_row entry y
 same_row entry grid y drawn below =
     ap (λ w. map (λ x. unhidden entry.hidden x y (pixel_at grid x y)) (range_with_len 0 w)) drawn.width
-    ∙ same_map (λ x. unhidden entry.hidden x y (pixel_at grid x y)) (λ x. machine.place entry x y) 0 entry.stage.w entry.stage.w (omega arith)
+    ∙ same_map (λ x. unhidden entry.hidden x y (pixel_at grid x y)) (λ x. machine.place entry x y) 0 entry.capture.w entry.capture.w (omega arith)
     (λ x inside. ap (unhidden entry.hidden x y) (drawn.pixels x y inside below))
 
 -- the rows that a dump prints
 abbrev pub picture_rows : List Area → Grid → List Answer
 picture_rows hidden grid = map (λ y. DumpRow (place_row hidden grid y)) (range_with_len 0 grid.h)
 
-pub same_rows : (entry : Entry) (grid : Grid) → IsRedrawn entry.stage grid → picture_rows entry.hidden grid ≡ machine.rows entry
+pub same_rows : (entry : Entry) (grid : Grid) → IsRedrawn entry.capture grid → picture_rows entry.hidden grid ≡ machine.rows entry
 same_rows entry grid drawn =
     ap (λ h. map (λ y. DumpRow (place_row entry.hidden grid y)) (range_with_len 0 h)) drawn.height
-    ∙ same_map (λ y. DumpRow (place_row entry.hidden grid y)) (λ y. DumpRow (machine.place_row entry y)) 0 entry.stage.h entry.stage.h (omega arith) (λ y below. ap DumpRow (same_row entry grid y drawn below))
+    ∙ same_map (λ y. DumpRow (place_row entry.hidden grid y)) (λ y. DumpRow (machine.place_row entry y)) 0 entry.capture.h entry.capture.h (omega arith) (λ y below. ap DumpRow (same_row entry grid y drawn below))
 
-pub same_sums : (entry : Entry) (grid : Grid) → IsRedrawn entry.stage grid → totals (places entry.hidden grid) ∷ [] ≡ machine.sums entry
+pub same_sums : (entry : Entry) (grid : Grid) → IsRedrawn entry.capture grid → totals (places entry.hidden grid) ∷ [] ≡ machine.sums entry
 same_sums entry grid drawn = ap (λ ps. totals ps ∷ []) (
     ap (λ h. flat_map (place_row entry.hidden grid) (range_with_len 0 h)) drawn.height
-    ∙ same_flat_map (place_row entry.hidden grid) (machine.place_row entry) 0 entry.stage.h entry.stage.h (omega arith) (λ y below. same_row entry grid y drawn below))
+    ∙ same_flat_map (place_row entry.hidden grid) (machine.place_row entry) 0 entry.capture.h entry.capture.h (omega arith) (λ y below. same_row entry grid y drawn below))
 
 -- no row tells of a lost frame
 pub rows_lose_none : (row : ℕ → List (Option Argb)) (ys : List ℕ) → lost_frames (map (λ y. DumpRow (row y)) ys) ≡ 0
@@ -65,3 +67,27 @@ rows_lose_none row (y ∷ ys) = omega (arith, rows_lose_none row ys)
 pub rows_fail_none : (row : ℕ → List (Option Argb)) (ys : List ℕ) → store_failures (map (λ y. DumpRow (row y)) ys) ≡ 0
 rows_fail_none row [] = refl
 rows_fail_none row (y ∷ ys) = omega (arith, rows_fail_none row ys)
+
+-- where this is the picture drawn last, what is told of it is told of the start that it shows, which was drawn last
+pub drawn_is : (tell : Entry → List Answer) (f : Frames) (grid : Grid) (replies : List Answer) → IsPictureOf f.newest (Ok grid) → IsDrawnLast f → ((entry : Entry) → IsRedrawn entry.capture grid → f.drawn.updates ≡ entry.updates → f.drawn.hidden ≡ entry.hidden → replies ≡ tell entry) → replies ≡ of_drawn tell f.newest
+drawn_is tell f grid replies picture last same = by f.newest picture last
+  where
+    by : (newest : Option Latest) → IsPictureOf newest (Ok grid) → (runs newest ≡ false → f.drawn ≡ drawn_by newest) → replies ≡ of_drawn tell newest
+    by None picture last = absurd picture
+    by (Some latest) picture last =
+        let drawn = last picture.0 in
+        same latest.entry picture.1 (ap (λ d. d.updates) drawn) (ap (λ d. d.hidden) drawn) ∙ sym (ap (λ b. cond b [] (tell latest.entry)) picture.0)
+
+-- where there is none, nothing is
+pub none_drawn : (tell : Entry → List Answer) (newest : Option Latest) (cause : NoPicture) → IsPictureOf newest (Err cause) → [] ≡ of_drawn tell newest
+none_drawn tell None cause refused = refl
+none_drawn tell (Some latest) cause refused = by (is_running latest.end) refused
+  where
+    by : (b : Bool) → cond b (Some no_picture.Busy) None ≡ Some cause → [] ≡ cond b [] (tell latest.entry)
+    by true refused = refl
+    by false refused = absurd (none-some cause refused)
+
+-- where there is a picture, nothing refuses it
+pub none_refused : (newest : Option Latest) (grid : Grid) → IsPictureOf newest (Ok grid) → picture_refusal newest ≡ None
+none_refused None grid picture = absurd picture
+none_refused (Some latest) grid picture = ap (λ b. cond b (Some no_picture.Busy) None) picture.0

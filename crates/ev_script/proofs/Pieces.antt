@@ -6,7 +6,16 @@ use Rattle.std.proofs.lemmas.List.FromFn.{map-range_with_len_more, take-map-rang
 use Rattle.ev_model.specs.Answer.{Answer}
 use Rattle.ev_model.specs.Text.{reply_text, text}
 use Rattle.std.proofs.lemmas.Grind.{flat_map-append}
-use Rattle.ev_port.specs.Told.{GrowsBy, GrowsPart, grows_on, part_of_front, whole_then_part}
+use Rattle.ev_port.specs.Told.{GrowsBy, GrowsPart, grows_on, grows_by_none, part_of_front, whole_then_part}
+use Rattle.ev_script.specs.Outside.{Writes}
+
+-- replies that are written are those that they are equal to
+pub retold : {T E : Type 0} {log log' : Option (List ℕ)} {result : Result T E} (replies told : List Answer) → replies ≡ told → Writes log log' (text replies) result → Writes log log' (text told) result
+retold {log = log} {log' = log'} {result = result} replies told same writes = subst (λ rs. Writes log log' (text rs) result) same writes
+
+-- no replies are written by nothing
+pub untold : {T E : Type 0} {log : Option (List ℕ)} {done : T} (told : List Answer) → [] ≡ told → Writes {T = T} {E = E} log log (text told) (Ok done)
+untold {T = T} {E = E} {log = log} {done = done} told none = subst (λ rs. Writes {T = T} {E = E} log log (text rs) (Ok done)) none (record { whole = grows_by_none log; part = tt })
 
 -- what holds at each error holds at this one
 pub on_err_always : {T E P : Type 0} (result : Result T E) → P → OnErr result P

@@ -1,8 +1,8 @@
 pub mod Totals
 pub mod Places
-pub mod Loads
 pub mod Machine
 pub mod Outside
+pub mod Told
 pub mod Session
 pub mod Play
 pub mod Frames

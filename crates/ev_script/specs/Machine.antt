@@ -1,11 +1,10 @@
 -- The machine that a script drives: what each line may do, and a script line by line.
-use Rattle.std.specs.Prelude.{◌≡◌, ℕ, ◌+◌, List, [], ◌∷◌, ◌++◌, Option}
-use Rattle.ev_port.specs.declared.file.StoredFile.{StoredFile}
+use Rattle.std.specs.Prelude.{◌≡◌, ℕ, ◌+◌, List, [], ◌∷◌, ◌++◌}
 use Rattle.ev_model.specs.Answer.{Answer, Lost, PreloadFailed, Bad}
 use Rattle.ev_model.specs.declared.refusal.LoadFault.TheVariants as load
 use Rattle.ev_lang.specs.declared.line.Line.{Line}
 use Rattle.ev_lang.specs.declared.line.Line.TheVariants as line
-use Rattle.ev_canvas.specs.Machine.{State, Turn, stays}
+use Rattle.ev_canvas.specs.Machine.{Setting, State, Turn, stays}
 use Rattle.ev_canvas.specs.Commands.{Commanded}
 
 -- how many frames a reply tells as lost
@@ -28,13 +27,13 @@ abbrev pub store_failures : List Answer → ℕ
 store_failures [] = 0
 store_failures (reply ∷ replies) = store_failures_of reply + store_failures replies
 
--- what line n may do, on a canvas with cells of this size and over a store with these files, where it tells them
-abbrev pub Step : ℕ → Option (List StoredFile) → State → ℕ → Line → Turn → Type 0
-Step cell files old n line.Empty turn = turn ≡ stays old []
-Step cell files old n (line.Bad fault) turn = turn ≡ stays old (Bad fault n ∷ [])
-Step cell files old n (line.Command command) turn = Commanded cell files old n command turn
+-- what line n may do in this setting
+abbrev pub Step : Setting → State → ℕ → Line → Turn → Type 0
+Step setting old n line.Empty turn = turn ≡ stays old []
+Step setting old n (line.Bad fault) turn = turn ≡ stays old (Bad fault n ∷ [])
+Step setting old n (line.Command command) turn = Commanded setting old n command turn
 
 -- lines from number n on may have these replies, and leave this state
-abbrev pub Plays : ℕ → Option (List StoredFile) → State → ℕ → List Line → List Answer → State → Type 0
-Plays cell files old n [] replies new = (replies ≡ []) × (new ≡ old)
-Plays cell files old n (line ∷ lines) replies new = (turn : Turn) × (rest : List Answer) × Step cell files old n line turn × Plays cell files turn.after (n + 1) lines rest new × (replies ≡ turn.replies ++ rest)
+abbrev pub Plays : Setting → State → ℕ → List Line → List Answer → State → Type 0
+Plays setting old n [] replies new = (replies ≡ []) × (new ≡ old)
+Plays setting old n (line ∷ lines) replies new = (turn : Turn) × (rest : List Answer) × Step setting old n line turn × Plays setting turn.after (n + 1) lines rest new × (replies ≡ turn.replies ++ rest)

@@ -1,18 +1,16 @@
 -- A whole script, from the opening state.
-use Rattle.std.specs.Prelude.{◌≡◌, ℕ, ◌+◌, List, [], ◌∷◌, ◌++◌, length, map, Option}
+use Rattle.std.specs.Prelude.{◌≡◌, ℕ, ◌+◌, List, ◌∷◌, ◌++◌, length, map, Option}
 use Rattle.ev_port.specs.Told.{GrowsBy, ShrinksBy, IsAtEnd}
 use Rattle.ev_port.specs.Causes.{RoseBy}
-use Rattle.ev_port.specs.declared.file.StoredFile.{StoredFile}
 use Rattle.ev_model.specs.Answer.{Answer}
 use Rattle.ev_model.specs.Text.{text}
 use Rattle.ev_lang.specs.declared.line.Line.{Line}
 use Rattle.ev_lang.specs.Lines.{lines, line_of}
 use Rattle.ev_canvas.specs.Chain.{Showing, Shows, AreReported}
-use Rattle.ev_canvas.specs.Machine.{State, Turn, opening}
-use Rattle.ev_canvas.specs.Canvas.{Parts}
+use Rattle.ev_canvas.specs.Canvas.{Canvas, now_of}
+use Rattle.ev_canvas.specs.Machine.{Setting, State, Turn, opening, starts_of}
 use Rattle.ev_script.specs.Machine.{Step, Plays, lost_frames, store_failures}
 use Rattle.ev_script.specs.Outside.{Outside}
-use Rattle.ev_script.specs.Session.{StandsFor}
 
 -- what the lines of a script say
 abbrev pub script_lines : List ℕ → List Line
@@ -21,44 +19,43 @@ script_lines script = map line_of (lines script)
 -- The machine plays all lines of the script. The log has grown by the bytes of its replies and the
 -- screen by the frames that it shows: each is a full redraw of the scene at its start, outside of what is
 -- hidden, and reports in what it differs from the one before. The screen failed at least once for each lost frame, and the
--- store at least once for each load that is told as failed there. `files` are those of the store, where
--- it tells them.
-pub record IsPlayed (cell : ℕ) (files : Option (List StoredFile)) (script : List ℕ) (before after : Outside) : Type 0 where
+-- store at least once for each load that is told as failed there.
+pub record IsPlayed (setting : Setting) (script : List ℕ) (before after : Outside) : Type 0 where
   pub replies : List Answer
   pub final : State
-  pub plays : Plays cell files opening 1 (script_lines script) replies final
+  pub plays : Plays setting opening 1 (script_lines script) replies final
   pub log_grows : GrowsBy before.log after.log (text replies)
   pub showings : List Showing
-  pub shows : Shows final.starts showings
+  pub shows : Shows (starts_of final) showings
   pub reported : AreReported showings
   pub screen_grows : GrowsBy before.frames after.frames (map (λ s. s.frame) showings)
   pub losses : RoseBy (lost_frames replies) before.faults after.faults
   pub failures : RoseBy (store_failures replies) before.store_faults after.store_faults
 
--- the same on a canvas, which then stands for the state that the machine comes to
-pub record IsPlayedOn (canvas : Parts) (cell : ℕ) (files : Option (List StoredFile)) (script : List ℕ) (before after : Outside) : Type 0 where
-  pub played : IsPlayed cell files script before after
-  pub stands : StandsFor canvas played.final
+-- the same on a canvas, which then keeps what the machine does
+pub record IsPlayedOn (canvas : Canvas) (setting : Setting) (script : List ℕ) (before after : Outside) : Type 0 where
+  pub played : IsPlayed setting script before after
+  pub stands : now_of canvas ≡ played.final.now
 
 -- The log failed within the replies to a line. The lines before it were played and answered whole; of
 -- the replies to this one only a front was written. The screen has grown by the frames that the machine
 -- shows up to this line, which is carried out.
-pub record IsStopped (cell : ℕ) (files : Option (List StoredFile)) (script : List ℕ) (before after : Outside) : Type 0 where
+pub record IsStopped (setting : Setting) (script : List ℕ) (before after : Outside) : Type 0 where
   pub answered : List Line
   pub last : Line
   pub left : List Line
   pub split : script_lines script ≡ answered ++ last ∷ left
   pub replies : List Answer
   pub state : State
-  pub plays : Plays cell files opening 1 answered replies state
+  pub plays : Plays setting opening 1 answered replies state
   pub turn : Turn
-  pub step : Step cell files state (length answered + 1) last turn
+  pub step : Step setting state (length answered + 1) last turn
   pub written : List ℕ
   pub missing : List ℕ
   pub cut : text turn.replies ≡ written ++ missing
   pub log_grows : GrowsBy before.log after.log (text replies ++ written)
   pub showings : List Showing
-  pub shows : Shows turn.after.starts showings
+  pub shows : Shows (starts_of turn.after) showings
   pub reported : AreReported showings
   pub screen_grows : GrowsBy before.frames after.frames (map (λ s. s.frame) showings)
   pub losses : RoseBy (lost_frames (replies ++ turn.replies)) before.faults after.faults

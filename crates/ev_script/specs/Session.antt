@@ -1,30 +1,33 @@
--- How a canvas stands for a state of the machine.
-use Rattle.std.specs.Prelude.{◌≡◌, ℕ, ◌<◌, false, List, [], ◌++◌, map, length, Option}
+-- A line that is carried out on a canvas, and the turn of the machine that it takes.
+use Rattle.std.specs.Prelude.{◌≡◌, ℕ, ◌+◌, ◌<◌, false, List, [], ◌++◌, map, Option, Result}
 use Rattle.ev_port.specs.Told.{GrowsBy}
 use Rattle.ev_port.specs.Causes.{RoseBy}
 use Rattle.ev_port.specs.declared.file.StoredFile.{StoredFile}
+use Rattle.ev_model.specs.Answer.{Answer}
 use Rattle.ev_model.specs.Text.{text}
 use Rattle.ev_lang.specs.declared.line.Line.{Line}
-use Rattle.ev_scene.specs.Board.{board}
-use Rattle.ev_canvas.specs.Canvas.{Parts}
-use Rattle.ev_canvas.specs.Chain.{Showing, Shows, newest_of}
+use Rattle.ev_canvas.specs.Canvas.{Canvas, now_of}
+use Rattle.ev_canvas.specs.Chain.{Showing, Shows}
 use Rattle.ev_canvas.specs.Frames.{runs}
-use Rattle.ev_canvas.specs.Machine.{State, Turn, none_running}
+use Rattle.ev_canvas.specs.Machine.{Setting, State, starts_of}
+use Rattle.ev_canvas.specs.Starts.{Latest, last_number}
+use Rattle.ev_canvas.specs.declared.canvas.Setup.{Setup}
 use Rattle.ev_script.specs.Machine.{Step, lost_frames, store_failures}
-use Rattle.ev_script.specs.Outside.{Outside}
+use Rattle.ev_script.specs.Outside.{Devices, Writes}
+use Rattle.ev_script.specs.Told.{told}
+use Rattle.ev_script.specs.declared.outcome.Outcome.{Outcome}
 
--- a canvas keeps the scene, the rectangles given and hidden, how many starts there were, the newest, and how many loads began, of which none runs
-pub record StandsFor (canvas : Parts) (state : State) : Type 0 where
-  pub scene : board canvas.scene ≡ state.scene
-  pub given : canvas.frames.given ≡ state.given
-  pub areas : canvas.frames.areas ≡ state.areas
-  pub count : canvas.frames.count ≡ length state.starts
-  pub newest : canvas.frames.newest ≡ newest_of state.starts
-  pub loads : canvas.loads ≡ none_running state.begun
+-- what a script is played on: a canvas set up so, and a store with these files, where it tells them
+abbrev pub setting : Setup → Option (List StoredFile) → Setting
+setting setup files = record { setup = setup; files = files }
 
--- it has begun fewer frames and loads than n, none of them runs, and its events were taken
-pub record IsReady (canvas : Parts) (n : ℕ) : Type 0 where
-  pub frames : canvas.frames.count < n
+-- the state for which a canvas stands, by the starts before its newest one
+abbrev pub state_of : Canvas → List Latest → State
+state_of canvas older = record { now = now_of canvas; older = older }
+
+-- a canvas has begun fewer frames and loads than n, none of them runs, and its events were taken
+pub record IsReady (canvas : Canvas) (n : ℕ) : Type 0 where
+  pub frames : last_number canvas.frames.newest < n
   pub loads : canvas.loads.begun < n
   pub running : canvas.loads.running ≡ []
   pub events : canvas.events ≡ []
@@ -32,21 +35,31 @@ pub record IsReady (canvas : Parts) (n : ℕ) : Type 0 where
 
 -- what was shown earlier and these are all that was shown of the starts
 abbrev pub ShowsMore : State → State → List Showing → Type 0
-ShowsMore old new showings = (earlier : List Showing) → Shows old.starts earlier → Shows new.starts (earlier ++ showings)
+ShowsMore old new showings = (earlier : List Showing) → Shows (starts_of old) earlier → Shows (starts_of new) (earlier ++ showings)
 
--- Line n took the state to one that the new canvas stands for. The screen has grown by what the
--- machine shows, and the log by the bytes of its replies: by all of them, or by a front.
-pub record Carried (Wrote : Option (List ℕ) → Option (List ℕ) → List ℕ → Type 0) (cell : ℕ) (files : Option (List StoredFile)) (n : ℕ) (line : Line) (before after : Outside) (state : State) (new : Parts) : Type 0 where
-  pub turn : Turn
-  pub step : Step cell files state n line turn
-  pub stands : StandsFor new turn.after
-  pub log_grows : Wrote before.log after.log (text turn.replies)
+-- Line n takes the state for which the old canvas stands to one for which the new canvas does, with these
+-- replies. The screen has grown by what the machine shows, and failed at least once for each lost frame;
+-- the store failed at least once for each load that is told as failed there.
+pub record TakesTurn (setting : Setting) (n : ℕ) (line : Line) (before after : Devices) (old new : Canvas) (older : List Latest) (replies : List Answer) : Type 0 where
+  pub starts : List Latest
+  pub step : Step setting (state_of old older) n line (record { replies = replies; after = state_of new starts })
   pub showings : List Showing
-  pub shows_more : ShowsMore state turn.after showings
+  pub shows_more : ShowsMore (state_of old older) (state_of new starts) showings
   pub screen_grows : GrowsBy before.frames after.frames (map (λ s. s.frame) showings)
-  pub losses : RoseBy (lost_frames turn.replies) before.faults after.faults
-  pub failures : RoseBy (store_failures turn.replies) before.store_faults after.store_faults
+  pub losses : RoseBy (lost_frames replies) before.faults after.faults
+  pub failures : RoseBy (store_failures replies) before.store_faults after.store_faults
 
--- the same for each state that the old canvas stands for
-abbrev pub Carries : (Option (List ℕ) → Option (List ℕ) → List ℕ → Type 0) → ℕ → Option (List StoredFile) → ℕ → Line → Outside → Outside → Parts → Parts → Type 0
-Carries Wrote cell files n line before after old new = (state : State) → StandsFor old state → Carried Wrote cell files n line before after state new
+-- From each state for which the old canvas stands, and whatever the line's number, the line takes a turn
+-- whose replies are told by the outcome. The canvas is ready for the next line, and its setup and the
+-- store's files are those that they were.
+pub record Acts (line : Line) (before after : Devices) (old new : Canvas) (outcome : Outcome) : Type 0 where
+  pub turns : (n : ℕ) (older : List Latest) → TakesTurn (setting old.setup before.files) n line before after old new older (told new n outcome)
+  pub ready : (n : ℕ) → IsReady old n → IsReady new (n + 1)
+  pub setup : new.setup ≡ old.setup
+  pub files : after.files ≡ before.files
+
+-- line n was carried out, and what it gave was told: as a whole, or as a front, where the sink failed
+pub record CarriesOut {T E : Type 0} (n : ℕ) (line : Line) (log log' : Option (List ℕ)) (before after : Devices) (old new : Canvas) (result : Result T E) : Type 0 where
+  pub outcome : Outcome
+  pub acts : Acts line before after old new outcome
+  pub writes : Writes log log' (text (told new n outcome)) result

@@ -3,6 +3,7 @@ use Rattle.std.specs.Prelude.{ℕ, Bool, true, false, ◌&&◌, ◌||◌, not, n
 use Rattle.std.specs.List.{list_any}
 use Rattle.std.specs.Str.{bytes_eq}
 use Rattle.ev_lang.specs.Classes.{natural}
+use Rattle.ev_canvas.specs.declared.canvas.Setup.{Setup}
 use Rattle.ev_script.specs.declared.words.Options.{Options}
 
 -- the value behind this option, where it stands among the words
@@ -62,3 +63,7 @@ options_of words = record {
   buffers = number_or 2 buffers (value_of (codes "--buffers") words);
   cell = number_or 8 cell (value_of (codes "--cell") words);
 }
+
+-- the canvas that they set up
+abbrev pub setup_of : Options → Setup
+setup_of options = record { buffers = options.buffers; cell = options.cell }

@@ -4,12 +4,13 @@ ghost use Rattle.ev_port.specs.Causes.{Rose};
 ghost use Rattle.ev_script.specs.Outside.{outside};
 ghost use Rattle.ev_script.specs.Frames.{ShowsInOrder};
 ghost use Rattle.ev_script.specs.Play.{IsPlayed, IsStopped, OfScript};
-ghost use Rattle.ev_script.specs.Words.{are_pairs, options_of};
+ghost use Rattle.ev_script.specs.Session.{setting};
+ghost use Rattle.ev_script.specs.Words.{are_pairs, options_of, setup_of};
 ghost use Rattle.ev_script.specs.Status.{is_before_lines, is_too_long, is_usage, Takes, IsFine, texts};
 
 use crate::script::{Played, play_alone};
 use crate::source::{ReadError, read_script};
-use crate::words::{are_pairs, options_of};
+use crate::words::{Options, are_pairs, options_of};
 use ev_canvas::{Canvas, Setup};
 use ev_port::{Screen, Sink, Source, Store};
 use std::alloc::Global;
@@ -43,10 +44,14 @@ pub fn run_alone<S: Source, K: Sink, T: Store, P: Screen>(
     store: &mut T,
     screen: &mut P,
 ) -> Status
-    ensures played { result ≡ Status.Ok → OfScript (IsPlayed (options_of (texts words.now)).cell (T.files store.old)) (S.left source.old) (S.left source.new)
+    ensures played { result ≡ Status.Ok → OfScript
+        (IsPlayed (setting (setup_of (options_of (texts words.now))) (T.files store.old)))
+        (S.left source.old) (S.left source.new)
         (outside (K.written sink.old) (P.shown screen.old) (P.faults screen.old) (T.faults store.old))
         (outside (K.written sink.new) (P.shown screen.new) (P.faults screen.new) (T.faults store.new)) }
-    ensures stopped { result ≡ Status.WriteFault → OfScript (IsStopped (options_of (texts words.now)).cell (T.files store.old)) (S.left source.old) (S.left source.new)
+    ensures stopped { result ≡ Status.WriteFault → OfScript
+        (IsStopped (setting (setup_of (options_of (texts words.now))) (T.files store.old)))
+        (S.left source.old) (S.left source.new)
         (outside (K.written sink.old) (P.shown screen.old) (P.faults screen.old) (T.faults store.old))
         (outside (K.written sink.new) (P.shown screen.new) (P.faults screen.new) (T.faults store.new)) }
     ensures in_order { ShowsInOrder (P.shown screen.old) (P.shown screen.new) }
@@ -65,12 +70,8 @@ pub fn run_alone<S: Source, K: Sink, T: Store, P: Screen>(
         return Status::Usage;
     }
     let options = options_of(words);
-    let setup = Setup {
-        buffers: options.buffers,
-        cell: options.cell,
-    };
     match read_script(alloc, source) {
-        Ok(script) => play_on_new(alloc, setup, &script, sink, store, screen),
+        Ok(script) => play_on_new(alloc, options, &script, sink, store, screen),
         Err(ReadError::Failed) => Status::ReadFault,
         Err(ReadError::TooLong) => Status::TooLong,
         Err(ReadError::NoMemory) => Status::NoMemory,
@@ -80,21 +81,23 @@ pub fn run_alone<S: Source, K: Sink, T: Store, P: Screen>(
 // Carries out a script on a canvas that is made for it.
 fn play_on_new<K: Sink, T: Store, P: Screen>(
     alloc: Global,
-    setup: Setup,
+    options: Options,
     script: &[u8],
     sink: &mut K,
     store: &mut T,
     screen: &mut P,
 ) -> Status
-    requires cell_low { 1 ≤ setup.cell }
-    requires cell_high { setup.cell ≤ 64 }
-    requires buffers_low { 1 ≤ setup.buffers }
-    requires buffers_high { setup.buffers ≤ 3 }
+    requires cell_low { 1 ≤ options.cell }
+    requires cell_high { options.cell ≤ 64 }
+    requires buffers_low { 1 ≤ options.buffers }
+    requires buffers_high { options.buffers ≤ 3 }
     requires short { length script.now ≤ 16777216 }
-    ensures played { result ≡ Status.Ok → IsPlayed setup.cell (T.files store.old) script.now
+    ensures played { result ≡ Status.Ok → IsPlayed
+        (setting (setup_of options) (T.files store.old)) script.now
         (outside (K.written sink.old) (P.shown screen.old) (P.faults screen.old) (T.faults store.old))
         (outside (K.written sink.new) (P.shown screen.new) (P.faults screen.new) (T.faults store.new)) }
-    ensures stopped { result ≡ Status.WriteFault → IsStopped setup.cell (T.files store.old) script.now
+    ensures stopped { result ≡ Status.WriteFault → IsStopped
+        (setting (setup_of options) (T.files store.old)) script.now
         (outside (K.written sink.old) (P.shown screen.old) (P.faults screen.old) (T.faults store.old))
         (outside (K.written sink.new) (P.shown screen.new) (P.faults screen.new) (T.faults store.new)) }
     ensures in_order { ShowsInOrder (P.shown screen.old) (P.shown screen.new) }
@@ -107,11 +110,21 @@ fn play_on_new<K: Sink, T: Store, P: Screen>(
     ensures unfetched { is_before_lines result ≡ true → store.new ≡ store.old }
     ensures complete { ¬ Rose (K.faults sink.old) (K.faults sink.new) → IsFine result }
 {
-    let Ok(mut canvas) = Canvas::create(alloc, setup) else {
+    let Ok(mut canvas) = Canvas::create(alloc, setup_of(options)) else {
         return Status::NoMemory;
     };
     match play_alone(alloc, &mut canvas, script, sink, store, screen) {
         Played::Ok => Status::Ok,
         Played::WriteFault => Status::WriteFault,
+    }
+}
+
+// The canvas that options set up.
+fn setup_of(options: Options) -> Setup
+    ensures { result ≡ setup_of options }
+{
+    Setup {
+        buffers: options.buffers,
+        cell: options.cell,
     }
 }

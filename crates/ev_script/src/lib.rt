@@ -1,13 +1,14 @@
 //! Scripts: the machine that their lines drive, and the log and frames that they give.
 #![tactic(auto)]
 
+mod act;
 mod alone;
-mod load;
+mod outcome;
 mod picture;
-mod reply;
 mod script;
 mod session;
 mod source;
+mod tell;
 mod totals;
 mod words;
 

@@ -6,10 +6,8 @@ ghost use Rattle.ev_port.specs.Told.{GrowsBy, GrowsPart};
 ghost use Rattle.ev_port.specs.Causes.{HasCause};
 ghost use Rattle.ev_model.specs.Answer.{DumpRow};
 ghost use Rattle.ev_model.specs.Text.{text, reply_text};
-ghost use Rattle.ev_canvas.specs.Totals.{totals};
-ghost use Rattle.ev_script.specs.Places.{unhidden, unhidden_row, place_row, places};
+ghost use Rattle.ev_script.specs.Places.{unhidden, unhidden_row, place_row};
 
-use crate::totals::Totals;
 use ev_argb::{MAX_SIDE, Picture, Pixel};
 use ev_lang::write_reply;
 use ev_model::Reply;
@@ -81,14 +79,4 @@ fn write_row<K: Sink>(sink: &mut K, pixels: &[Option<Pixel>]) -> Result<(), Fail
     ensures cause { HasCause (K.faults sink.old) (K.faults sink.new) result }
 {
     write_reply(sink, &Reply::DumpRow { pixels })
-}
-
-/// The totals of a picture, without what is hidden.
-pub fn write_totals<K: Sink>(sink: &mut K, picture: &Picture, hidden: &Region) -> Result<(), Failed>
-    requires { IsWhole picture.now }
-    ensures ok { OnOk result (GrowsBy (K.written sink.old) (K.written sink.new) (reply_text (totals (places hidden.now picture.now)))) }
-    ensures err { OnErr result (GrowsPart (K.written sink.old) (K.written sink.new) (reply_text (totals (places hidden.now picture.now)))) }
-    ensures cause { HasCause (K.faults sink.old) (K.faults sink.new) result }
-{
-    write_reply(sink, &Totals::of(picture, hidden).reply())
 }

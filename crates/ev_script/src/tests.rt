@@ -232,7 +232,12 @@ fn logs_of_updates(rt: HostRuntime) -> Result<(), Fail> {
     for (script, log) in UPDATES {
         compare(&rt, &[], script, &NEVER, Status::Ok, log)?;
     }
-    // two equal records that change their order, in cells of one pixel
+    Ok(())
+}
+
+// Two equal records that change their order, in cells of one pixel.
+#[test]
+fn log_of_small_cells(rt: HostRuntime) -> Result<(), Fail> {
     let script: &[u8] =
         b"size 16 8\nrect a\nresize a 4 4\ncolor a 255 0 0 255\nshow a\nrect b\nmove b 2 2\nresize b 4 4\ncolor b 0 0 255 255\nshow b\nrender\nraise a\nrender\n";
     let log: &[u8] = b"shown 1 16 8 1\nupdate 0 0 16 8\nshown 2 16 8 1\nupdate 2 2 2 2\n";
@@ -240,14 +245,29 @@ fn logs_of_updates(rt: HostRuntime) -> Result<(), Fail> {
     Ok(())
 }
 
+// The outside of a test: the files above, room for two frames, and nothing that fails.
+#[derive(Drop)]
+struct Rig {
+    sink: MemSink,
+    store: MemStore,
+    screen: MemScreen,
+}
+
+fn new_rig(alloc: Global) -> Result<Rig, Fail> {
+    let room = ScreenRoom {
+        frames: 2,
+        updates: 2,
+        pixels: 800,
+    };
+    Ok(Rig {
+        sink: MemSink::new(alloc, 99, Vec::new(alloc))?,
+        store: MemStore::new(files(alloc)?, Vec::new(alloc)),
+        screen: MemScreen::new(alloc, room, Vec::new(alloc))?,
+    })
+}
+
 // The canvas of a script that is carried out on a new one, with cells of 4 by 4.
-fn canvas_of(
-    alloc: Global,
-    script: &[u8],
-    sink: &mut MemSink,
-    store: &mut MemStore,
-    screen: &mut MemScreen,
-) -> Result<Canvas, Fail>
+fn canvas_of(alloc: Global, script: &[u8], rig: &mut Rig) -> Result<Canvas, Fail>
     requires { length script.now ≤ 16777216 }
     ensures { IfOk result (λ canvas. canvas.events ≡ []) }
 {
@@ -256,39 +276,48 @@ fn canvas_of(
         cell: 4,
     };
     let mut canvas = Canvas::create(alloc, setup)?;
+    let (sink, store, screen) = (&mut rig.sink, &mut rig.store, &mut rig.screen);
     match play_alone(alloc, &mut canvas, script, sink, store, screen) {
         Played::Ok => Ok(canvas),
         Played::WriteFault => Err(Fail::new("a fault of the sink")),
     }
 }
 
-// A canvas has the frames, the updates and the objects of the lines that were played on it.
-#[test]
-fn canvas_of_a_script(rt: HostRuntime) -> Result<(), Fail> {
-    let alloc = rt.alloc();
-    let room = ScreenRoom {
-        frames: 2,
-        updates: 2,
-        pixels: 800,
-    };
-    let mut sink = MemSink::new(alloc, 99, Vec::new(alloc))?;
-    let mut store = MemStore::new(files(alloc)?, Vec::new(alloc));
-    let mut screen = MemScreen::new(alloc, room, Vec::new(alloc))?;
-    let script: &[u8] =
-        b"size 20 20\nrect r\nresize r 2 2\nrender\nmove r 7 7\nshow r\nrender\nload r\n";
-    let mut canvas = canvas_of(alloc, script, &mut sink, &mut store, &mut screen)?;
-    let log: &[u8] =
-        b"shown 1 20 20 1\nupdate 0 0 20 20\nshown 2 20 20 1\nupdate 4 4 8 8\nrefused kind 8\n";
-    assert_eq!(rt; sink.written(), log);
-    assert_eq!(rt; canvas.frames(), 2);
-    let cells = Rect::new(4, 4, 8, 8).expect(&rt, "a rectangle");
-    assert_eq!(rt; canvas.updates().first(), Some(&cells));
-    let name = Name::read(b"r").expect(&rt, "a name");
+// How a canvas refuses to make a rectangle of this name.
+fn refuses(canvas: &mut Canvas, name: &[u8]) -> Option<Refusal>
+    requires { canvas.old.events ≡ [] }
+{
+    let name = Name::read(name)?;
     let kind = Kind::Rect;
-    assert_eq!(rt;
-        canvas.edit(&Edit::Make { name, kind }),
-        Err(Refusal::Exists)
-    );
+    match canvas.edit(&Edit::Make { name, kind }) {
+        Ok(()) => None,
+        Err(cause) => Some(cause),
+    }
+}
+
+const TWO_FRAMES: &[u8] =
+    b"size 20 20\nrect r\nresize r 2 2\nrender\nmove r 7 7\nshow r\nrender\nload r\n";
+
+const TWO_FRAMES_LOG: &[u8] =
+    b"shown 1 20 20 1\nupdate 0 0 20 20\nshown 2 20 20 1\nupdate 4 4 8 8\nrefused kind 8\n";
+
+// A canvas has the frames and the updates of the lines that were played on it.
+#[test]
+fn frames_of_a_script(rt: HostRuntime) -> Result<(), Fail> {
+    let mut rig = new_rig(rt.alloc())?;
+    let canvas = canvas_of(rt.alloc(), TWO_FRAMES, &mut rig)?;
+    assert_eq!(rt; rig.sink.written(), TWO_FRAMES_LOG);
+    assert_eq!(rt; canvas.frames(), 2);
+    assert_eq!(rt; canvas.updates().first().copied(), Rect::new(4, 4, 8, 8));
+    Ok(())
+}
+
+// And their objects.
+#[test]
+fn objects_of_a_script(rt: HostRuntime) -> Result<(), Fail> {
+    let mut rig = new_rig(rt.alloc())?;
+    let mut canvas = canvas_of(rt.alloc(), TWO_FRAMES, &mut rig)?;
+    assert_eq!(rt; refuses(&mut canvas, b"r"), Some(Refusal::Exists));
     Ok(())
 }
 
@@ -303,9 +332,8 @@ fn logs_of_loads(rt: HostRuntime) -> Result<(), Fail> {
 // A store fails at its second call, and in that load alone.
 #[test]
 fn failing_store(rt: HostRuntime) -> Result<(), Fail> {
-    let second: [u64; 1] = [2];
     let failing = Failing {
-        fetches: &second,
+        fetches: &[2],
         ..NEVER
     };
     compare(
@@ -343,45 +371,41 @@ fn logs_of_scripts(rt: HostRuntime) -> Result<(), Fail> {
     Ok(())
 }
 
+// The screen fails at its first call, and that frame is lost.
 #[test]
-fn faults(rt: HostRuntime) -> Result<(), Fail> {
-    let first: [u64; 1] = [1];
-    let second: [u64; 1] = [2];
-    // the screen fails at its first call
+fn failing_screen(rt: HostRuntime) -> Result<(), Fail> {
     let failing = Failing {
-        frames: &first,
+        frames: &[1],
         ..NEVER
     };
+    let script: &[u8] = b"size 4 4\nrender\nrender\n";
     let log: &[u8] = b"lost 1\nshown 2 4 4 1\nupdate 0 0 4 4\n";
-    let shown = compare(
-        &rt,
-        &[],
-        b"size 4 4\nrender\nrender\n",
-        &failing,
-        Status::Ok,
-        log,
-    )?;
+    let shown = compare(&rt, &[], script, &failing, Status::Ok, log)?;
     assert_eq!(&rt; shown, 1);
-    // the source fails at its first call
+    Ok(())
+}
+
+// The source fails at its first call, and nothing is carried out.
+#[test]
+fn failing_source(rt: HostRuntime) -> Result<(), Fail> {
     let failing = Failing {
-        reads: &first,
+        reads: &[1],
         ..NEVER
     };
     compare(&rt, &[], RED, &failing, Status::ReadFault, b"")?;
-    // the sink fails at its second call
+    Ok(())
+}
+
+// The sink fails at its second call, within the replies to a line that is carried out all the same.
+#[test]
+fn failing_sink(rt: HostRuntime) -> Result<(), Fail> {
     let failing = Failing {
-        writes: &second,
+        writes: &[2],
         ..NEVER
     };
+    let script: &[u8] = b"size 1 1\nrender\ndump\n";
     let log: &[u8] = b"shown 1 1 1 1\n";
-    let shown = compare(
-        &rt,
-        &[],
-        b"size 1 1\nrender\ndump\n",
-        &failing,
-        Status::WriteFault,
-        log,
-    )?;
+    let shown = compare(&rt, &[], script, &failing, Status::WriteFault, log)?;
     assert_eq!(&rt; shown, 1);
     Ok(())
 }
@@ -390,6 +414,11 @@ fn faults(rt: HostRuntime) -> Result<(), Fail> {
 fn words(rt: HostRuntime) -> Result<(), Fail> {
     let log: &[u8] = b"shown 1 2 1 1\nupdate 0 0 2 1\nffff0000 ffff0000\n";
     compare(&rt, &["--workers", "0"], RED, &NEVER, Status::Ok, log)?;
+    Ok(())
+}
+
+#[test]
+fn refused_words(rt: HostRuntime) -> Result<(), Fail> {
     let refused: [&[&str]; 3] = [&["--cell", "3"], &["--workers", "17"], &["--speed", "1"]];
     for words in refused {
         compare(&rt, words, RED, &NEVER, Status::Usage, b"")?;
@@ -397,13 +426,31 @@ fn words(rt: HostRuntime) -> Result<(), Fail> {
     Ok(())
 }
 
+// Carries out a script of so many spaces.
+fn compare_spaces<R: AllocGlobal + Abort>(
+    rt: &R,
+    count: usize,
+    status: Status,
+    log: &[u8],
+) -> Result<usize, Fail> {
+    let script = vec![in rt.alloc(); b' '; count]?;
+    compare(rt, &[], &script, &NEVER, status, log)
+}
+
 #[test]
 fn long_scripts(rt: HostRuntime) -> Result<(), Fail> {
-    let alloc = rt.alloc();
-    let mut script = vec![in alloc; b' '; 1 << 24]?;
-    compare(&rt, &[], &script, &NEVER, Status::Ok, b"bad long 1\n")?;
-    script.push(b' ')?;
-    compare(&rt, &[], &script, &NEVER, Status::TooLong, b"")?;
+    compare_spaces(&rt, 1 << 24, Status::Ok, b"bad long 1\n")?;
+    compare_spaces(&rt, (1 << 24) + 1, Status::TooLong, b"")?;
+    Ok(())
+}
+
+// The line that makes rectangle number n.
+fn push_rect(script: &mut Vec<u8>, n: u32) -> Result<(), Fail> {
+    script.extend_from_slice(b"rect r")?;
+    for place in [10_000, 1_000, 100, 10, 1] {
+        script.push(b'0' + (n / place % 10) as u8)?;
+    }
+    script.push(b'\n')?;
     Ok(())
 }
 
@@ -411,20 +458,10 @@ fn long_scripts(rt: HostRuntime) -> Result<(), Fail> {
 fn many_objects(rt: HostRuntime) -> Result<(), Fail> {
     let mut script = Vec::new(rt.alloc());
     for n in 0..65_537_u32 {
-        script.extend_from_slice(b"rect r")?;
-        for place in [10_000, 1_000, 100, 10, 1] {
-            script.push(b'0' + (n / place % 10) as u8)?;
-        }
-        script.push(b'\n')?;
+        push_rect(&mut script, n)?;
     }
-    compare(
-        &rt,
-        &[],
-        &script,
-        &NEVER,
-        Status::Ok,
-        b"refused full 65537\n",
-    )?;
+    let log: &[u8] = b"refused full 65537\n";
+    compare(&rt, &[], &script, &NEVER, Status::Ok, log)?;
     Ok(())
 }
 
@@ -470,48 +507,71 @@ fn push_link(
     Ok(())
 }
 
-// 4,000 rectangles, each clipped by the next, and 4,000 smart objects, each in the next, with a rectangle in the first.
-#[test]
-fn long_ways_up(rt: HostRuntime) -> Result<(), Fail> {
-    let chains: [(&[u8], &[u8], u8, &[u8]); 2] = [
-        (b"rect ", b"clip ", b'r', b""),
-        (
-            b"smart ",
-            b"member ",
-            b's',
-            b"rect r\nresize r 1 1\nshow r\nmember r s0000\n",
-        ),
-    ];
-    for (make, tie, letter, last) in chains {
-        let mut script = b"size 2 1\n".to_vec(rt.alloc())?;
-        for n in 0..4000 {
-            push_link(&mut script, make, tie, letter, n)?;
-        }
-        script.extend_from_slice(last)?;
-        script.extend_from_slice(b"render\ndump\n")?;
-        let log: &[u8] = b"shown 1 2 1 1\nupdate 0 0 2 1\nffffffff 00000000\n";
-        compare(&rt, &[], &script, &NEVER, Status::Ok, log)?;
+// A script of 4,000 objects, each tied to the next, and some last lines.
+fn ways_up(
+    alloc: Global,
+    make: &[u8],
+    tie: &[u8],
+    letter: u8,
+    last: &[u8],
+) -> Result<Vec<u8>, Fail> {
+    let mut script = b"size 2 1\n".to_vec(alloc)?;
+    for n in 0..4000 {
+        push_link(&mut script, make, tie, letter, n)?;
     }
+    script.extend_from_slice(last)?;
+    script.extend_from_slice(b"render\ndump\n")?;
+    Ok(script)
+}
+
+const FIRST_OF_TWO: &[u8] = b"shown 1 2 1 1\nupdate 0 0 2 1\nffffffff 00000000\n";
+
+// 4,000 rectangles, each clipped by the next.
+#[test]
+fn long_way_of_clippers(rt: HostRuntime) -> Result<(), Fail> {
+    let script = ways_up(rt.alloc(), b"rect ", b"clip ", b'r', b"")?;
+    compare(&rt, &[], &script, &NEVER, Status::Ok, FIRST_OF_TWO)?;
     Ok(())
 }
 
-// A small interface: a panel, and a list of ten lines of text that a rectangle clips.
+// 4,000 smart objects, each in the next, with a rectangle in the first.
 #[test]
-fn small_interface(rt: HostRuntime) -> Result<(), Fail> {
-    let alloc = rt.alloc();
-    let mut script =
-        b"size 120 100\nimage panel\nresize panel 120 100\nborder panel 4 4 4 4\nfile panel n.evi\nshow panel\nload panel\nsmart list\nshow list\nrect area\nmove area 10 10\nresize area 100 80\nshow area\nclip list area\n".to_vec(
-            alloc,
-        )?;
-    let mut log = b"preloaded panel\n".to_vec(alloc)?;
+fn long_way_of_members(rt: HostRuntime) -> Result<(), Fail> {
+    let last: &[u8] = b"rect r\nresize r 1 1\nshow r\nmember r s0000\n";
+    let script = ways_up(rt.alloc(), b"smart ", b"member ", b's', last)?;
+    compare(&rt, &[], &script, &NEVER, Status::Ok, FIRST_OF_TWO)?;
+    Ok(())
+}
+
+const PANEL: &[u8] =
+    b"size 120 100\nimage panel\nresize panel 120 100\nborder panel 4 4 4 4\nfile panel n.evi\nshow panel\nload panel\nsmart list\nshow list\nrect area\nmove area 10 10\nresize area 100 80\nshow area\nclip list area\n";
+
+// A panel, and a list of ten lines of text that a rectangle clips.
+fn interface(alloc: Global) -> Result<Vec<u8>, Fail> {
+    let mut script = PANEL.to_vec(alloc)?;
     for k in 0..10_u8 {
         push_text(&mut script, b'0' + k)?;
+    }
+    script.extend_from_slice(b"render\n")?;
+    Ok(script)
+}
+
+// Its log.
+fn interface_log(alloc: Global) -> Result<Vec<u8>, Fail> {
+    let mut log = b"preloaded panel\n".to_vec(alloc)?;
+    for k in 0..10_u8 {
         log.extend_from_slice(b"preloaded t")?;
         log.push(b'0' + k)?;
         log.push(b'\n')?;
     }
-    script.extend_from_slice(b"render\n")?;
     log.extend_from_slice(b"shown 1 120 100 1\nupdate 0 0 120 100\n")?;
+    Ok(log)
+}
+
+#[test]
+fn small_interface(rt: HostRuntime) -> Result<(), Fail> {
+    let script = interface(rt.alloc())?;
+    let log = interface_log(rt.alloc())?;
     compare(&rt, &[], &script, &NEVER, Status::Ok, &log)?;
     Ok(())
 }

@@ -1,17 +1,15 @@
-use Rattle.std.proofs.Common.{◌≡◌, ◌≤◌, ◌+◌, length}
-use Rattle.ev_script.specs.Outside.{outside}
-use Rattle.ev_script.specs.Session.{IsReady}
+use Rattle.std.proofs.Common.{◌≤◌, ◌+◌, length}
+use Rattle.ev_script.specs.Outside.{devices}
+use Rattle.ev_script.specs.Session.{IsReady, setting}
 use Rattle.ev_script.proofs.Playing.{SoFar}
 use Rattle.ev_script.proofs.script.play_alone.Given as goal
 
 abbrev pub invariant-loop-rest : goal.invariant-loop-rest
 invariant-loop-rest g l = record {
-  so_far : SoFar l.fn.canvas.setup.cell (g.T.Store.files l.fn.store) l.script
-      (outside (g.K.Sink.written l.fn.sink) (g.P.Screen.shown l.fn.screen) (g.P.Screen.faults l.fn.screen) (g.T.Store.faults l.fn.store))
-      (outside (g.K.Sink.written l.sink) (g.P.Screen.shown l.screen) (g.P.Screen.faults l.screen) (g.T.Store.faults l.store)) l.canvas l.number l.rest;
-  cell : l.canvas.frames.cell ≡ l.fn.canvas.setup.cell;
+  so_far : SoFar (setting l.fn.canvas.setup (g.T.Store.files l.fn.store)) l.script (g.K.Sink.written l.fn.sink) (g.K.Sink.written l.sink)
+      (devices (g.P.Screen.shown l.fn.screen) (g.P.Screen.faults l.fn.screen) (g.T.Store.files l.fn.store) (g.T.Store.faults l.fn.store))
+      (devices (g.P.Screen.shown l.screen) (g.P.Screen.faults l.screen) (g.T.Store.files l.store) (g.T.Store.faults l.store)) l.canvas l.number l.rest;
   ready : IsReady l.canvas l.number;
-  files : g.T.Store.files l.store ≡ g.T.Store.files l.fn.store;
   numbered : l.number + length l.rest ≤ length l.script + 1;
   faults : g.K.Sink.faults l.fn.sink ≤ g.K.Sink.faults l.sink;
 }
