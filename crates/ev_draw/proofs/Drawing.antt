@@ -38,6 +38,8 @@ pub drawn : (work : ℤ → ℤ → Bool) (looks : List Look) (left top : ℕ) (
 drawn work looks left top bare commands old now new wide tall fits shows cleared carried =
     let cost = within_cost work looks left top bare commands (patches_good left top old.w old.h commands fits) shows in
     record {
+      width = carried.width ∙ cleared.width;
+      height = carried.height ∙ cleared.height;
       inside = λ x y w h is.
           carried.pixels x y (let e = cleared.width in omega arith) (let e = cleared.height in omega arith) ∙ ap (put_all commands left top x y) (cleared.pixels x y w h (omega arith) (omega arith))
           ∙ painted work looks left top bare commands x y (tile_at old x y) shows (omega arith) (omega arith) is (is_hidden looks (left + x) (top + y)) refl;

@@ -108,8 +108,10 @@ pub record ShowsFrom (o : Object) (i : ℕ) (font : Glyphs) (text : List ℕ) (x
   pub samples : (w h k j : ℕ) → sample o.content w h (i + k) j ≡ text_sample font text (x + k) j
 
 -- In the work region a plane at this place has what all looks paint on a clear canvas, elsewhere it has what it had, and no more
--- pixels count as painted than the tile may cost.
+-- pixels count as painted than the tile may cost. Its size stays.
 pub record IsDrawn (work : ℤ → ℤ → Bool) (looks : List Look) (left top : ℕ) (old new : Tile) : Type 0 where
+  pub width : new.w ≡ old.w
+  pub height : new.h ≡ old.h
   pub inside : (x y : ℕ) → x < old.w → y < old.h → work (pos (left + x)) (pos (top + y)) ≡ true → tile_at new x y ≡ painted_looks looks (left + x) (top + y) clear
   pub outside : (x y : ℕ) → x < old.w → y < old.h → work (pos (left + x)) (pos (top + y)) ≡ false → tile_at new x y ≡ tile_at old x y
   pub count : new.painted ≤ old.painted + cost work looks left top
