@@ -4,3 +4,4 @@ pub mod Sheeting
 pub mod Imaging
 pub mod Texting
 pub mod Drawing
+pub mod Testing

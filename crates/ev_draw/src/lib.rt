@@ -12,5 +12,7 @@ mod span;
 #[cfg(test)]
 mod tests;
 mod text;
+#[cfg(test)]
+mod tile_tests;
 
 pub use job::{TileDone, TileJob, draw};
