@@ -10,6 +10,7 @@ pub mod Fitting
 pub mod Seeing
 pub mod Taking
 pub mod Moving
+pub mod Missing
 pub mod Baring
 pub mod Framing
 pub mod Cutting

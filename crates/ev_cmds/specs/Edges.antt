@@ -1,5 +1,5 @@
 -- Rectangles of a canvas by their edges.
-use Rattle.std.specs.Prelude.{◌≡◌, ℕ, ◌+◌, ◌<◌, ◌≤◌, Bool, false, ◌&&◌, nat_le, nat_lt, ℤ, pos, int_le, int_lt, min, max, List, Option, Some, None}
+use Rattle.std.specs.Prelude.{◌≡◌, ℕ, ◌+◌, ◌<◌, ◌≤◌, Bool, false, ◌&&◌, ◌||◌, nat_le, nat_lt, ℤ, pos, ◌+ℤ◌, int_le, int_lt, min, max, List, Option, Some, None}
 use Rattle.std.specs.List.{list_any}
 use Rattle.ev_geom.specs.Area.{Area, holds}
 use Rattle.ev_cmds.specs.declared.edges.Edges.{Edges}
@@ -23,6 +23,14 @@ join a b = record { left = min a.left b.left; right = max a.right b.right; top =
 -- what two of them have in common
 abbrev pub meet : Edges → Edges → Edges
 meet a b = record { left = max a.left b.left; right = min a.right b.right; top = max a.top b.top; bottom = min a.bottom b.bottom }
+
+-- whether a stretch ends before one place or begins at or after another
+abbrev pub are_apart : ℤ → ℤ → ℕ → ℕ → Bool
+are_apart from len low high = int_le (from +ℤ len) (pos low) || int_le (pos high) from
+
+-- whether edges and a rectangle have no column or no row in common
+abbrev pub misses : Edges → Area → Bool
+misses e area = are_apart area.x area.w e.left e.right || are_apart area.y area.h e.top e.bottom
 
 -- a patch is what the tile at this place sees
 pub record IsPatchOn (e : Edges) (x y : ℕ) (p : Patch) : Type 0 where

@@ -23,7 +23,8 @@ pub(crate) struct Table {
 }
 
 impl Table {
-    // Takes in a record that lies below all that were taken in before.
+    // Takes in a record that lies below all that were taken in before. One whose area misses the work
+    // region is left at once.
     pub(crate) fn take(
         &self,
         one: &Record,
@@ -35,6 +36,9 @@ impl Table {
         ensures { OnOk result (drawn.TakesAll self.now one.now jobs.old jobs.new) }
     {
         is_paintable(one, self.w, self.h);
+        if self.bounds.misses(&one.area) {
+            return Ok(());
+        }
         let seen = Edges::of(&one.area, self.w, self.h).meet(&self.bounds);
         for row in seen.top / PLANE_SIDE..tiles_along(seen.bottom) {
             self.take_row(one, &seen, row, jobs, spare)?;
