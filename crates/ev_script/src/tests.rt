@@ -1,10 +1,12 @@
 ghost use Rattle.std.specs.Prelude.{◌≡◌, ◌≤◌, length, [], IfOk};
+ghost use Rattle.ev_canvas.specs.Canvas.{opened};
 
 use super::*;
 use ev_canvas::{Canvas, Setup};
 use ev_geom::Rect;
-use ev_model::{Edit, Kind, Name, Refusal};
-use ev_port::{Bytes, MemScreen, MemSink, MemSource, MemStore, ScreenRoom, StoredFile};
+use ev_port::{
+    Bytes, MemScreen, MemSink, MemSource, MemStore, Screen, ScreenRoom, Sink, Store, StoredFile,
+};
 use std::alloc::Global;
 use std::process::Abort;
 use std::test::Fail;
@@ -266,32 +268,43 @@ fn new_rig(alloc: Global) -> Result<Rig, Fail> {
     })
 }
 
-// The canvas of a script that is carried out on a new one, with cells of 4 by 4.
-fn canvas_of(alloc: Global, script: &[u8], rig: &mut Rig) -> Result<Canvas, Fail>
-    requires { length script.now ≤ 16777216 }
-    ensures { IfOk result (λ canvas. canvas.events ≡ []) }
+// A new canvas with cells of 4 by 4.
+fn small_cells(alloc: Global) -> Result<Canvas, Fail>
+    ensures { IfOk result (λ canvas. canvas ≡ opened canvas.setup) }
 {
     let setup = Setup {
         buffers: 1,
         cell: 4,
     };
-    let mut canvas = Canvas::create(alloc, setup)?;
-    let (sink, store, screen) = (&mut rig.sink, &mut rig.store, &mut rig.screen);
-    match play_alone(alloc, &mut canvas, script, sink, store, screen) {
-        Played::Ok => Ok(canvas),
-        Played::WriteFault => Err(Fail::new("a fault of the sink")),
-    }
+    Ok(Canvas::create(alloc, setup)?)
 }
 
-// How a canvas refuses to make a rectangle of this name.
-fn refuses(canvas: &mut Canvas, name: &[u8]) -> Option<Refusal>
-    requires { canvas.old.events ≡ [] }
+// Carries out a script, and takes all events.
+fn play<K: Sink, T: Store, P: Screen>(
+    alloc: Global,
+    canvas: &mut Canvas,
+    script: &[u8],
+    sink: &mut K,
+    store: &mut T,
+    screen: &mut P,
+) -> Played
+    requires opening { canvas.old ≡ opened canvas.old.setup }
+    requires short { length script.now ≤ 16777216 }
+    ensures { canvas.new.events ≡ [] }
 {
-    let name = Name::read(name)?;
-    let kind = Kind::Rect;
-    match canvas.edit(&Edit::Make { name, kind }) {
-        Ok(()) => None,
-        Err(cause) => Some(cause),
+    play_alone(alloc, canvas, script, sink, store, screen)
+}
+
+// The canvas of a script that is carried out on a new one, with cells of 4 by 4.
+fn canvas_of(alloc: Global, script: &[u8], rig: &mut Rig) -> Result<Canvas, Fail>
+    requires { length script.now ≤ 16777216 }
+    ensures { IfOk result (λ canvas. canvas.events ≡ []) }
+{
+    let mut canvas = small_cells(alloc)?;
+    let (sink, store, screen) = (&mut rig.sink, &mut rig.store, &mut rig.screen);
+    match play(alloc, &mut canvas, script, sink, store, screen) {
+        Played::Ok => Ok(canvas),
+        Played::WriteFault => Err(Fail::new("a fault of the sink")),
     }
 }
 
@@ -309,15 +322,6 @@ fn frames_of_a_script(rt: HostRuntime) -> Result<(), Fail> {
     assert_eq!(rt; rig.sink.written(), TWO_FRAMES_LOG);
     assert_eq!(rt; canvas.frames(), 2);
     assert_eq!(rt; canvas.updates().first().copied(), Rect::new(4, 4, 8, 8));
-    Ok(())
-}
-
-// And their objects.
-#[test]
-fn objects_of_a_script(rt: HostRuntime) -> Result<(), Fail> {
-    let mut rig = new_rig(rt.alloc())?;
-    let mut canvas = canvas_of(rt.alloc(), TWO_FRAMES, &mut rig)?;
-    assert_eq!(rt; refuses(&mut canvas, b"r"), Some(Refusal::Exists));
     Ok(())
 }
 
