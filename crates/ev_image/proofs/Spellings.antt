@@ -2,12 +2,12 @@
 use Rattle.std.proofs.Common.{◌≡◌, ℕ, zero, suc, ◌+◌, ◌-◌, ◌*◌, ◌/◌, ◌^◌, ◌<◌, ◌≤◌, Bool, true, false, cond, ltb, ◌&&◌, List, [], ◌∷◌, ◌++◌, map, length, get_or, take, drop, Option, Some, None, Result, Ok, Err, refl, sym, ap, subst, ◌∙◌, append_assoc, eq-eqb, arith, inl, inr, ◌⊎◌}
 use Rattle.std.proofs.lemmas.Bool.{and_parts, and_from, le-ltb, le-leb, eqb-true, cases_lt, ltb-false, leb-true}
 use Rattle.std.proofs.lemmas.List.{length-drop, length-map, length-take, take_all, take_more, take-append-drop, take_at, drop_at, length-append, get_or-drop, get_or-take, get_or_past}
-use Rattle.std.proofs.lemmas.List.Elements.{All-from_recursion, recursion_from_All}
+use Rattle.std.proofs.lemmas.List.Elements.{All-from_recursion, All-get_or, recursion_from_All}
 use Rattle.std.proofs.lemmas.List.Folds.{drop_split}
 use Rattle.std.proofs.lemmas.Nat.{le_bytes_4, from_le_bytes-to_le_bytes_4}
 use Rattle.std.specs.Prelude.{codes, slice_range, nat_eq, nat_le, IfOk}
 use lib.Pointwise.{pointwise}
-use Rattle.std.specs.List.{flat_map, list_all, AllByRecursion}
+use Rattle.std.specs.List.{All, flat_map, list_all, AllByRecursion}
 use Rattle.std.specs.Int.{w32, to_le_bytes, from_le_bytes}
 use Rattle.ev_image.specs.Format.{channels, even, is_even, magic, sides_place, head_len, pixel_len, pixel, spelling, CanSpell, Stands}
 use Rattle.ev_image.proofs.Four.{next_good, pixel_channels, is_pixel_from}
@@ -90,6 +90,13 @@ image_of format w h bytes pixels sides e = record {
 
 abbrev pub IsBytes : List ℕ → Type 0
 IsBytes bytes = (i : ℕ) → get_or bytes i 0 < 256
+
+pub are_bytes : (bytes : List ℕ) → All (λ b. b < 256) bytes → IsBytes bytes
+are_bytes bytes small i =
+    elim (cases_lt i (length bytes)) [
+      | inl lt ↦ All-get_or (λ b. b < 256) bytes i 0 lt small
+      | inr le ↦ rw (get_or_past bytes i 0 le) (omega arith)
+    ]
 
 IsBytes-drop : (n : ℕ) (bytes : List ℕ) → IsBytes bytes → IsBytes (drop n bytes)
 IsBytes-drop n bytes h i = rw get_or-drop (h (n + i))

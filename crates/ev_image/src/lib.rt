@@ -12,7 +12,7 @@ mod writing;
 
 pub use fault::BadImage;
 pub use format::Format;
-pub use laws::{one_image, read_again};
+pub use laws::{one_image, read_again, reads_only_images};
 pub use pixels::channels;
 pub use reading::decode;
 pub use std::alloc::AllocError as NoMemory;

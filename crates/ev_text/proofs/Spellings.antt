@@ -1,13 +1,13 @@
 -- What is read is spelled so, and what is spelled so is read.
-use Rattle.std.proofs.Common.{◌≡◌, ℕ, zero, suc, ◌+◌, ◌-◌, ◌*◌, ◌/◌, ◌^◌, ◌<◌, ◌≤◌, Bool, true, false, cond, ltb, not, ◌&&◌, List, [], ◌∷◌, ◌++◌, length, get_or, take, drop, Option, Some, None, Result, Ok, Err, refl, sym, ap, ap₂, subst, ◌∙◌, append_assoc, arith, lit<}
+use Rattle.std.proofs.Common.{◌≡◌, ℕ, zero, suc, ◌+◌, ◌-◌, ◌*◌, ◌/◌, ◌^◌, ◌<◌, ◌≤◌, Bool, true, false, cond, ltb, not, ◌&&◌, List, [], ◌∷◌, ◌++◌, length, get_or, take, drop, Option, Some, None, Result, Ok, Err, refl, sym, ap, ap₂, subst, ◌∙◌, append_assoc, arith, inl, inr, lit<}
 use Rattle.std.specs.Prelude.{codes, nat_eq, nat_le, IfOk}
 use Rattle.std.specs.List.{flat_map, list_all, AllByRecursion, All, position, prefix_len}
 use Rattle.std.specs.Int.{w32, to_le_bytes, from_le_bytes}
 use lib.Pointwise.{pointwise}
 use Rattle.std.proofs.Math.Nat.{pow-le-pow_right}
-use Rattle.std.proofs.lemmas.Bool.{not-false, and_parts, and_from, eqb-true, ltb-false, ltb-true, lt-ltb, le-ltb, le-leb}
-use Rattle.std.proofs.lemmas.List.{length-drop, length-take, length-append, take_all, take_at, drop_at, take_more, take-append-drop, get_or-drop, drop-drop}
-use Rattle.std.proofs.lemmas.List.Elements.{recursion_from_All}
+use Rattle.std.proofs.lemmas.Bool.{not-false, and_parts, and_from, cases_lt, eqb-true, leb-true, ltb-false, ltb-true, lt-ltb, le-ltb, le-leb}
+use Rattle.std.proofs.lemmas.List.{length-drop, length-take, length-append, take_all, take_at, drop_at, take_more, take-append-drop, get_or-drop, get_or_past, drop-drop}
+use Rattle.std.proofs.lemmas.List.Elements.{All-from_recursion, All-get_or, recursion_from_All}
 use Rattle.std.proofs.lemmas.Nat.{le_bytes_4, from_le_bytes-to_le_bytes_4}
 use Rattle.ev_model.specs.Glyphs.{Glyphs, IsFont, RowsFit}
 use Rattle.ev_text.specs.declared.fault.BadFont.{BadFont}
@@ -103,6 +103,13 @@ font_of height widths bytes rows low high count narrow e =
 abbrev pub IsBytes : List ℕ → Type 0
 IsBytes bytes = (i : ℕ) → get_or bytes i 0 < 256
 
+pub are_bytes : (bytes : List ℕ) → All (λ b. b < 256) bytes → IsBytes bytes
+are_bytes bytes small i =
+    elim (cases_lt i (length bytes)) [
+      | inl lt ↦ All-get_or (λ b. b < 256) bytes i 0 lt small
+      | inr le ↦ rw (get_or_past bytes i 0 le) (omega arith)
+    ]
+
 IsBytes-drop : (n : ℕ) (bytes : List ℕ) → IsBytes bytes → IsBytes (drop n bytes)
 IsBytes-drop n bytes h i = rw get_or-drop (h (n + i))
 
@@ -123,24 +130,53 @@ front_is word bytes len long e =
     let whole : take (length (take 4 bytes)) word ≡ word = take_all (length (take 4 bytes)) word (omega arith) in
     pointwise_same (take 4 bytes) word (rw whole at e)
 
--- the first five bytes
-height_takes : (bytes : List ℕ) (height : ℕ) → height_at bytes ≡ Ok height → take 5 bytes ≡ codes "EVF1" ++ height ∷ []
+-- the first five bytes, behind which the widths stand
+record HeightAt (bytes : List ℕ) (height : ℕ) : Type 0 where
+  front : take 5 bytes ≡ codes "EVF1" ++ height ∷ []
+  low : 1 ≤ height
+  high : height ≤ 32
+  long : 100 ≤ length bytes
+
+height_takes : (bytes : List ℕ) (height : ℕ) → height_at bytes ≡ Ok height → HeightAt bytes height
 unfolding height_at
 height_takes bytes height e =
     let word = guard_ok (not (begins (codes "EVF1") bytes)) Magic _ height e in
     let long = guard_ok (ltb (length bytes) 100) (Short (length bytes)) _ height word.1 in
     let range = pass_ok (nat_le 1 (get_or bytes 4 0) && nat_le (get_or bytes 4 0) 32) Height (Ok (get_or bytes 4 0)) height long.1 in
     let enough = ltb-false _ _ long.0 in
-    let four = front_is (codes "EVF1") bytes refl (omega (arith, enough)) (not-false (begins (codes "EVF1") bytes) word.0) in
-    take_more bytes 4 0 (omega (arith, enough)) ∙ ap (λ (t : List ℕ). t ++ get_or bytes 4 0 ∷ []) four ∙ ap (λ (h : ℕ). codes "EVF1" ++ h ∷ []) (ok_is (get_or bytes 4 0) height range.1)
+    let four : take 4 bytes ≡ codes "EVF1" = front_is (codes "EVF1") bytes refl (omega (arith, enough)) (not-false (begins (codes "EVF1") bytes) word.0) in
+    let sides = and_parts (nat_le 1 (get_or bytes 4 0)) (nat_le (get_or bytes 4 0) 32) range.0 in
+    subst (HeightAt bytes) (ok_is (get_or bytes 4 0) height range.1) (record {
+      front = take_more bytes 4 0 (omega (arith, enough)) ∙ ap (λ (t : List ℕ). t ++ get_or bytes 4 0 ∷ []) four;
+      low = leb-true 1 (get_or bytes 4 0) sides.0;
+      high = leb-true (get_or bytes 4 0) 32 sides.1;
+      long = enough;
+    })
 
-checked_widths_ok : (widths : List ℕ) (wide : Option ℕ) (found : List ℕ) → checked_widths widths wide ≡ Ok found → widths ≡ found
-checked_widths_ok widths None found e = ok_is widths found e
+checked_widths_ok : (widths : List ℕ) (wide : Option ℕ) (found : List ℕ) → checked_widths widths wide ≡ Ok found → (wide ≡ None) × (widths ≡ found)
+checked_widths_ok widths None found e = (refl, ok_is widths found e)
 checked_widths_ok widths (Some glyph) found e = absurd cc
 
-widths_take : (bytes widths : List ℕ) → widths_at bytes ≡ Ok widths → take 95 (drop 5 bytes) ≡ widths
+widths_take : (bytes widths : List ℕ) → widths_at bytes ≡ Ok widths → (position is_wide (take 95 (drop 5 bytes)) ≡ None) × (take 95 (drop 5 bytes) ≡ widths)
 unfolding widths_at
 widths_take bytes widths e = checked_widths_ok (take 95 (drop 5 bytes)) (position is_wide (take 95 (drop 5 bytes))) widths e
+
+narrow_all : (widths : List ℕ) → length widths ≤ prefix_len (λ width. not (is_wide width)) widths → AllByRecursion (λ width. width ≤ 32) widths
+narrow_all [] e = tt
+narrow_all (width ∷ widths) e = split (is_wide width) refl (narrow_all widths) e
+  where
+    split : (wide : Bool) → is_wide width ≡ wide → (length widths ≤ prefix_len (λ width. not (is_wide width)) widths → AllByRecursion (λ width. width ≤ 32) widths)
+        → suc (length widths) ≤ cond (not wide) (1 + prefix_len (λ width. not (is_wide width)) widths) 0 → (width ≤ 32) × AllByRecursion (λ width. width ≤ 32) widths
+    split true is rest h = absurd (omega arith)
+    split false is rest h = (ltb-false 32 width is, rest (omega arith))
+
+-- where no glyph is found that is too wide, none is
+narrow : (widths : List ℕ) → position is_wide widths ≡ None → AllByRecursion (λ width. width ≤ 32) widths
+narrow widths none = split (ltb (prefix_len (λ width. not (is_wide width)) widths) (length widths)) refl none
+  where
+    split : (found : Bool) → ltb (prefix_len (λ width. not (is_wide width)) widths) (length widths) ≡ found → cond found (Some (prefix_len (λ width. not (is_wide width)) widths)) None ≡ None → AllByRecursion (λ width. width ≤ 32) widths
+    split true is e = absurd cc
+    split false is e = narrow_all widths (ltb-false _ _ is)
 
 four_fit : (a b c d : ℕ) → a < 256 → b < 256 → c < 256 → d < 256 → IsBytes (a ∷ b ∷ c ∷ d ∷ [])
 four_fit a b c d p q r s zero = p
@@ -159,8 +195,8 @@ rows_take (a ∷ b ∷ c ∷ d ∷ bytes) count fits len =
     let first = le_bytes_4 (a ∷ b ∷ c ∷ d ∷ []) (from_le_bytes w32 (a ∷ b ∷ c ∷ d ∷ [])) refl (four_fit a b c d (fits 0) (fits 1) (fits 2) (fits 3)) refl in
     ap₂ (λ (x y : List ℕ). x ++ y) first rest
 
--- the bytes of a font that was read
-pub font_takes : (bytes : List ℕ) (font : Glyphs) → IsBytes bytes → font_at bytes ≡ Ok font → bytes ≡ spelling font
+-- what is read as a font stands in the bytes
+pub font_takes : (bytes : List ℕ) (font : Glyphs) → IsBytes bytes → font_at bytes ≡ Ok font → Stands bytes font
 unfolding font_at
 font_takes bytes font fits e =
     let h = bind_ok (height_at bytes) (λ height. widths_at bytes >>= λ widths. rows_at height widths bytes >>= λ rows. Ok (record { height = height; widths = widths; rows = rows })) font e in
@@ -175,12 +211,16 @@ font_takes bytes font fits e =
     let rest : drop 5 bytes ≡ take 95 (drop 5 bytes) ++ drop 100 bytes = sym (take-append-drop 95 (drop 5 bytes)) ∙ ap (λ (t : List ℕ). take 95 (drop 5 bytes) ++ t) (drop-drop 95 5 bytes) in
     let whole : bytes ≡ take 5 bytes ++ (take 95 (drop 5 bytes) ++ drop 100 bytes) = sym (take-append-drop 5 bytes) ∙ ap (λ (t : List ℕ). take 5 bytes ++ t) rest in
     let parts : take 5 bytes ++ (take 95 (drop 5 bytes) ++ drop 100 bytes) ≡ (codes "EVF1" ++ h.0 ∷ []) ++ (w.0 ++ flat_map (to_le_bytes w32) r.0) =
-    ap₂ (λ (x y : List ℕ). x ++ y) head (ap₂ (λ (x y : List ℕ). x ++ y) middle (sym tail)) in
-    whole ∙ parts ∙ sym (append_assoc (codes "EVF1" ++ h.0 ∷ []) w.0 (flat_map (to_le_bytes w32) r.0)) ∙ ap spelling (ok_is made font r.2)
+    ap₂ (λ (x y : List ℕ). x ++ y) head.front (ap₂ (λ (x y : List ℕ). x ++ y) middle.1 (sym tail)) in
+    let spelled : bytes ≡ spelling made = whole ∙ parts ∙ sym (append_assoc (codes "EVF1" ++ h.0 ∷ []) w.0 (flat_map (to_le_bytes w32) r.0)) in
+    let count : length w.0 ≡ 95 = ap length (sym middle.1) ∙ omega (arith, length-take 95 (drop 5 bytes), length-drop 5 bytes, head.long) in
+    let widths = All-from_recursion (λ width. width ≤ 32) w.0 (subst (λ (ws : List ℕ). AllByRecursion (λ width. width ≤ 32) ws) middle.1 (narrow _ middle.0)) in
+    let valid = font_of h.0 w.0 bytes r.0 head.low head.high count widths r.1 in
+    subst (Stands bytes) (ok_is made font r.2) (record { valid = valid; spelled = spelled })
 
-pub is_found : (bytes : List ℕ) (result : Result Glyphs BadFont) → IsBytes bytes → IfOk result IsFont → Gives (λ font. font) result (font_at bytes) → IfOk result (λ font. Stands bytes font)
-is_found bytes (Ok font) fits valid e = record { valid = valid; spelled = font_takes bytes font fits e }
-is_found bytes (Err fault) fits valid e = tt
+pub is_found : (bytes : List ℕ) (result : Result Glyphs BadFont) → IsBytes bytes → Gives (λ font. font) result (font_at bytes) → IfOk result (λ font. Stands bytes font)
+is_found bytes (Ok font) fits e = font_takes bytes font fits e
+is_found bytes (Err fault) fits e = tt
 
 -- ---- what is spelled so is read
 

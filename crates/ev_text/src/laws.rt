@@ -1,5 +1,6 @@
 // What the format promises by itself.
-ghost use Rattle.std.specs.Prelude.{◌≡◌, ℕ, List, Ok};
+ghost use Rattle.std.specs.Prelude.{◌≡◌, ℕ, ◌<◌, List, Ok};
+ghost use Rattle.std.specs.List.{All};
 ghost use Rattle.ev_model.specs.Glyphs.{Glyphs, IsFont};
 ghost use Rattle.ev_text.specs.Format.{Stands, spelling};
 ghost use Rattle.ev_text.specs.Reading.{font_at};
@@ -12,4 +13,9 @@ pub fn one_font()
 /// A law: the spelling of a font is read as that font.
 pub fn read_again()
     ensures { (font : Glyphs) → IsFont font → font_at (spelling font) ≡ Ok font }
+{}
+
+/// A law: what is read as a font stands in the bytes.
+pub fn reads_only_fonts()
+    ensures { (bytes : List ℕ) (font : Glyphs) → All (λ b. b < 256) bytes → font_at bytes ≡ Ok font → Stands bytes font }
 {}

@@ -1,7 +1,7 @@
 // From bytes to a font.
 ghost use Rattle.std.specs.Prelude.{◌≡◌, ◌+◌, ◌*◌, ◌≤◌, ◌<◌, length, IfOk, IfErr, IfSome, IfNone, Ok};
 ghost use Rattle.std.specs.List.{position, All};
-ghost use Rattle.ev_model.specs.Glyphs.{Glyphs, IsFont};
+ghost use Rattle.ev_model.specs.Glyphs.{Glyphs};
 ghost use Rattle.ev_text.specs.Format.{Stands};
 ghost use Rattle.ev_text.specs.Reading.{begins, height_at, is_wide, widths_at, rows_of, bad_glyph, checked_rows, rows_at, font_at, IsFault, Gives};
 
@@ -34,8 +34,7 @@ pub fn decode_font(alloc: Global, bytes: &[u8]) -> Result<Font, BadFont>
 // What `decode_font` gives, before it is known which fonts stand in which bytes.
 #[tactic(auto, unfolding(crate::specs::Reading::font_at))]
 fn font_at(alloc: Global, bytes: &[u8]) -> Result<Font, BadFont>
-    ensures exact { Gives (λ font. font) result (font_at bytes.now) }
-    ensures valid { IfOk result IsFont }
+    ensures { Gives (λ font. font) result (font_at bytes.now) }
 {
     let height = height_at(bytes)?;
     let widths = widths_at(bytes)?;
