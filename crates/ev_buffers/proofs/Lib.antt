@@ -5,3 +5,4 @@ pub mod Lends
 pub mod Lasts
 pub mod Drawing
 pub mod Plans
+pub mod Repairing

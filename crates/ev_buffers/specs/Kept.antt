@@ -60,7 +60,7 @@ pub record Follows (w h : ℕ) (paint : ℕ → ℕ → Argb) (hidden : ℤ → 
 -- The work region is what this plan and those since the next buffer's last use updated, without what is hidden.
 abbrev pub Repairs : Chain → List Area → (ℤ → ℤ → Bool) → Draft → Type 0
 Repairs chain updates hidden' plan = (hidden : ℤ → ℤ → Bool) (paint paint' : ℕ → ℕ → Argb) → IsKept paint hidden chain → Follows chain.w chain.h paint hidden updates paint' hidden'
-    → (x y : ℕ) → x < chain.w → y < chain.h → has_pixel plan.work (pos x) (pos y) ≡ ((updated (drop 1 chain.marks) (pos x) (pos y) || has_pixel updates (pos x) (pos y)) && not (hidden' (pos x) (pos y)))
+    → (x y : ℤ) → has_pixel plan.work x y ≡ ((updated (drop 1 chain.marks) x y || has_pixel updates x y) && not (hidden' x y))
 
 -- a plane in the place of tile t shows what is painted where nothing is hidden
 pub record TileShows (w h : ℕ) (paint : ℕ → ℕ → Argb) (hidden : ℤ → ℤ → Bool) (t : ℕ) (plane : Tile) : Type 0 where

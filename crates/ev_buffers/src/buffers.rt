@@ -1,5 +1,5 @@
 // Buffers: one to three pictures that are drawn in turn.
-ghost use Rattle.std.specs.Prelude.{◌≡◌, ◌+◌, ◌≤◌, ◌||◌, ◌&&◌, not, drop, true, false, Some, None, IfOk, IfSome, MatchOption};
+ghost use Rattle.std.specs.Prelude.{◌≡◌, ◌+◌, ◌≤◌, ◌||◌, ◌&&◌, not, drop, length, true, false, Some, None, IfOk, IfSome, MatchOption};
 ghost use Rattle.ev_argb.specs.Grid.{IsWhole, painted_of};
 ghost use Rattle.ev_geom.specs.Bands.{has_pixel, IsBandsOf};
 
@@ -61,6 +61,15 @@ impl Buffers {
             pictures,
             marks,
         })
+    }
+
+    /// How many buffers there are.
+    pub fn count(&self) -> u32
+        ensures count { result ≡ length self.now.marks }
+        ensures some { 1 ≤ result }
+        ensures few { result ≤ 3 }
+    {
+        self.marks.len() as u32
     }
 
     /// What a frame with these updates has to draw on the next buffer: what is stale there and what
