@@ -86,9 +86,10 @@ fn push_changed(
     Ok(())
 }
 
-// The pixels of all the areas. Halves are united, so that n areas take time in proportion to n times
-// the logarithm of n.
-fn united(alloc: Global, areas: &[Rect]) -> Result<Region, NoMemory>
+/// The pixels of all the areas, each of which is empty or has all its pixels from 0 to 999,999 each
+/// way. Halves are united, so that n areas take time in proportion to n times the logarithm of n.
+/// `NoMemory` where there is no room for the region.
+pub fn united(alloc: Global, areas: &[Rect]) -> Result<Region, NoMemory>
     requires { All FitsRegion areas.now }
     ensures { IfOk result (IsBandsOf (has_pixel areas.now)) }
 {

@@ -14,4 +14,6 @@ mod unkept;
 
 pub use damage::{between, between_marked};
 pub use ev_region::NoMemory;
+pub use in_step::united;
 pub use laws::{equal_looks_pass, undamaged_pixels_stay};
+pub use same::same_look;

@@ -7,8 +7,9 @@ use ev_argb::Pixel;
 use ev_geom::Rect;
 use ev_model::{Border, Content, Fill, ImagePart, Op, Record, TextPart};
 
-// Whether two records show the same: the area, the rectangle, the operation, the colour and the content.
-pub(crate) fn same_look(one: &Record, other: &Record) -> bool
+/// Whether two records show the same: the area, the rectangle, the operation, the colour and the
+/// content (docs/CANVAS.md, Damage). Of which objects they are doesn't count.
+pub fn same_look(one: &Record, other: &Record) -> bool
     ensures { result ≡ same_look (look_of one.now) (look_of other.now) }
 {
     let a = one.object.get();
