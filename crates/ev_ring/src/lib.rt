@@ -1,8 +1,9 @@
 //! Tickets between one owner and any number of hands.
 //!
 //! The owner publishes jobs by raising a limit. Each hand claims the next ticket below the limit, and counts it as done
-//! when it gives it back. The ring has three words, which change in single atomic steps: the limit, the number of
-//! tickets that were claimed, and the number of tickets that were given back. No call but `rest` waits.
+//! when it gives it back. The ring has four words, which change in single atomic steps: the limit, the number of
+//! tickets that were claimed, the number of tickets that were given back, and the bell, which only wakes the hands
+//! that rest (docs/THREADS.md, "Resting"). No call but `rest` waits.
 #![tactic(auto)]
 
 mod answers;
