@@ -4,6 +4,7 @@
 mod picture;
 mod pixel;
 mod plane;
+mod rect;
 mod span;
 #[cfg(test)]
 mod tests;

@@ -1,10 +1,11 @@
 // A plane holds its pixels in one vector. Clauses see its size, its pixels and its count.
-ghost use Rattle.std.specs.Prelude.{◌≡◌, ℕ, ◌≤◌, ◌<◌, ◌+◌, ◌*◌, ◌^◌, length, map, replicate, get_or, slice_range, IfOk};
+ghost use Rattle.std.specs.Prelude.{◌≡◌, ℕ, ◌≤◌, ◌<◌, ◌+◌, ◌*◌, ◌^◌, length, get_or, slice_range, IfOk};
 ghost use Rattle.std.specs.Simd.Lanes.{zip2};
 ghost use Rattle.ev_argb.specs.Argb as argb;
-ghost use Rattle.ev_argb.specs.Tile.{IsTile, blank, place, tile_at, painted_on, with_pixel_in, PaintsSpan};
+ghost use Rattle.ev_argb.specs.Tile.{IsTile, blank, place, tile_at, painted_on, with_pixel_in, made, PaintsSpan, PaintsRect};
 
-use crate::span::{blend, blend_one};
+use crate::rect::{Way, put_rect};
+use crate::span::blend;
 use crate::{NoMemory, Pixel};
 use std::alloc::Global;
 use std::marker::Model;
@@ -82,35 +83,47 @@ impl Plane {
         self.painted += len as u64;
     }
 
-    /// Replaces `len` pixels from column x of row y on by one. The span lies in the plane. Each pixel
-    /// of it counts as painted.
-    #[inline(always)]
-    pub fn fill_span(&mut self, x: u32, y: u32, len: u32, pixel: Pixel)
-        requires columns { x + len ≤ self.old.w }
-        requires row { y < self.old.h }
-        requires count { self.old.painted + len < 2 ^ 64 }
-        ensures value { self.new ≡ painted_on self.old (place self.old x y) (replicate len pixel) }
-        ensures pixels { PaintsSpan self.old self.new x y len (λ i. pixel) }
+    /// Replaces each pixel of a rectangle by one: of w columns from column x on, and h rows from row y
+    /// on. The rectangle lies in the plane. Each pixel of it counts as painted.
+    pub fn fill_rect(&mut self, x: u32, y: u32, w: u32, h: u32, pixel: Pixel)
+        requires columns { x + w ≤ self.old.w }
+        requires rows { y + h ≤ self.old.h }
+        requires count { self.old.painted + w * h < 2 ^ 64 }
+        ensures { PaintsRect self.old self.new x y w h (λ under. pixel) }
     {
-        let at = y as usize * self.width as usize + x as usize;
-        self.pixels[at..at + len as usize].fill(pixel);
-        self.painted += u64::from(len);
+        self.put_rect(Way::Fill, pixel, x, y, w, h);
     }
 
-    /// Paints one pixel over each of `len` from column x of row y on, by `over`. The span lies in the
-    /// plane. Each pixel of it counts as painted.
-    #[inline(always)]
-    pub fn blend_all(&mut self, x: u32, y: u32, len: u32, pixel: Pixel)
-        requires columns { x + len ≤ self.old.w }
-        requires row { y < self.old.h }
-        requires count { self.old.painted + len < 2 ^ 64 }
-        ensures value { let at = place self.old x y in
-            self.new ≡ painted_on self.old at (map (argb.over pixel) (slice_range self.old.pixels at (at + len))) }
-        ensures pixels { PaintsSpan self.old self.new x y len (λ i. argb.over pixel (tile_at self.old (x + i) y)) }
+    /// Paints one pixel over each of a rectangle, by `over`: of w columns from column x on, and h rows
+    /// from row y on. The rectangle lies in the plane. Each pixel of it counts as painted.
+    pub fn blend_rect(&mut self, x: u32, y: u32, w: u32, h: u32, pixel: Pixel)
+        requires columns { x + w ≤ self.old.w }
+        requires rows { y + h ≤ self.old.h }
+        requires count { self.old.painted + w * h < 2 ^ 64 }
+        ensures { PaintsRect self.old self.new x y w h (argb.over pixel) }
     {
-        let at = y as usize * self.width as usize + x as usize;
-        blend_one(&mut self.pixels[at..at + len as usize], pixel);
-        self.painted += u64::from(len);
+        self.put_rect(Way::Blend, pixel, x, y, w, h);
+    }
+
+    // Puts one pixel on each of a rectangle.
+    #[inline(always)]
+    fn put_rect(&mut self, way: Way, pixel: Pixel, x: u32, y: u32, w: u32, h: u32)
+        requires columns { x + w ≤ self.old.w }
+        requires rows { y + h ≤ self.old.h }
+        requires count { self.old.painted + w * h < 2 ^ 64 }
+        ensures { PaintsRect self.old self.new x y w h (made way pixel) }
+    {
+        put_rect(
+            &mut self.pixels,
+            way,
+            pixel,
+            self.width as usize,
+            x as usize,
+            y as usize,
+            w as usize,
+            h as usize,
+        );
+        self.painted += u64::from(w) * u64::from(h);
     }
 
     /// How many columns the plane has.

@@ -1,5 +1,5 @@
 // Spans of pixels.
-ghost use Rattle.std.specs.Prelude.{◌≡◌, ◌&&◌, ◌==◌, length, map, All};
+ghost use Rattle.std.specs.Prelude.{◌≡◌, ◌&&◌, ◌==◌, length, All};
 ghost use Rattle.std.specs.Simd.Lanes.{zip2};
 ghost use Rattle.ev_argb.specs.Argb as argb;
 
@@ -13,16 +13,6 @@ pub(crate) fn blend(to: &mut [Pixel], from: &[Pixel])
 {
     for i in 0..to.len() {
         to[i] = over(from[i], to[i]);
-    }
-}
-
-// One pixel painted over each of `to`.
-#[inline(always)]
-pub(crate) fn blend_one(to: &mut [Pixel], pixel: Pixel)
-    ensures { to.new ≡ map (argb.over pixel) to.old }
-{
-    for i in 0..to.len() {
-        to[i] = over(pixel, to[i]);
     }
 }
 

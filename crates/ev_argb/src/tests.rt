@@ -37,15 +37,16 @@ fn spans_are_counted(rt: HostRuntime) -> Result<(), Fail> {
 }
 
 #[test]
-fn one_pixel_on_a_span(rt: HostRuntime) -> Result<(), Fail> {
-    let mut plane = Plane::new(rt.alloc(), 4, 3)?;
-    plane.fill_span(0, 2, 3, pixel(0x80000080)?);
-    plane.blend_all(1, 2, 3, pixel(0x80800000)?);
-    assert_eq!(rt; plane.painted(), 18);
-    assert_eq!(rt; plane.get(0, 2).bits(), 0x80000080);
-    assert_eq!(rt; plane.get(1, 2).bits(), 0xc0800040);
-    assert_eq!(rt; plane.get(3, 2).bits(), 0x80800000);
-    assert_eq!(rt; plane.width(), 4);
+fn one_pixel_on_a_rectangle(rt: HostRuntime) -> Result<(), Fail> {
+    let mut plane = Plane::new(rt.alloc(), 7, 3)?;
+    plane.fill_rect(1, 1, 5, 2, pixel(0x80000080)?);
+    plane.blend_rect(2, 2, 5, 1, pixel(0x80800000)?);
+    assert_eq!(rt; plane.painted(), 36);
+    assert_eq!(rt; plane.get(5, 0).bits(), 0);
+    assert_eq!(rt; plane.get(5, 1).bits(), 0x80000080);
+    assert_eq!(rt; plane.get(5, 2).bits(), 0xc0800040);
+    assert_eq!(rt; plane.get(6, 2).bits(), 0x80800000);
+    assert_eq!(rt; plane.width(), 7);
     assert_eq!(rt; plane.height(), 3);
     Ok(())
 }
