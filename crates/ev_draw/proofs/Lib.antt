@@ -1,4 +1,5 @@
 pub mod Patching
+pub mod Solids
 pub mod Baring
 pub mod Sheeting
 pub mod Imaging

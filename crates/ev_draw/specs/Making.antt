@@ -30,9 +30,13 @@ pub record LiesIn (p : Patch) (w h : ℕ) : Type 0 where
   pub down : p.top ≤ p.bottom
   pub bottom : p.bottom ≤ h
 
+-- w columns from column x on, and h rows from row y on
+abbrev pub rectangle : ℕ → ℕ → ℕ → ℕ → Patch
+rectangle x y w h = record { left = x; right = x + w; top = y; bottom = y + h }
+
 -- columns of one row
 abbrev pub span : ℕ → ℕ → ℕ → Patch
-span x y n = record { left = x; right = x + n; top = y; bottom = y + 1 }
+span x y n = rectangle x y n 1
 
 -- the rows of a patch above row y
 abbrev pub above : Patch → ℕ → Patch

@@ -31,7 +31,7 @@ fn clear_columns(bits: u64, y: u32, plane: &mut Plane)
     while let Some(run) = next_run(bits, from) {
         let x = u32::from(run.left);
         let len = u32::from(run.right - run.left);
-        put_color(Op::Copy, Pixel::CLEAR, x, y, len, plane);
+        put_color(Op::Copy, Pixel::CLEAR, x, y, len, 1, plane);
         from = run.right;
     }
 }

@@ -17,8 +17,8 @@ pub(crate) fn put_solid(patch: Patch, op: Op, color: Pixel, plane: &mut Plane)
     ensures { Paints patch (λ x y value. put op color value) (size_of patch) plane.old plane.new }
 {
     let x = u32::from(patch.left);
+    let y = u32::from(patch.top);
     let width = u32::from(patch.right - patch.left);
-    for y in patch.top..patch.bottom {
-        put_color(op, color, x, u32::from(y), width, plane);
-    }
+    let height = u32::from(patch.bottom - patch.top);
+    put_color(op, color, x, y, width, height, plane);
 }

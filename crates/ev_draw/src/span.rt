@@ -1,9 +1,9 @@
 // Spans of a plane, each pixel of which is put there.
-ghost use Rattle.std.specs.Prelude.{◌≡◌, ◌+◌, ◌<◌, ◌≤◌, ◌^◌, true, length, map};
+ghost use Rattle.std.specs.Prelude.{◌≡◌, ◌+◌, ◌*◌, ◌<◌, ◌≤◌, ◌^◌, true, length, map};
 ghost use Rattle.ev_argb.specs.Argb.{tint};
 ghost use Rattle.ev_model.specs.Paint.{put};
 ghost use Rattle.ev_model.specs.Sample.{white};
-ghost use Rattle.ev_draw.specs.Making.{Paints, span, pixel_of};
+ghost use Rattle.ev_draw.specs.Making.{Paints, rectangle, span, pixel_of};
 
 use ev_argb::{Pixel, Plane, are_opaque, tint};
 use ev_model::Op;
@@ -21,17 +21,17 @@ pub(crate) fn put_span(op: Op, x: u32, y: u32, row: &[Pixel], plane: &mut Plane)
     }
 }
 
-// Puts one colour in place of, or over, `len` pixels.
+// Puts one colour in place of, or over, the pixels of w columns from column x on and h rows from row y on.
 #[inline(always)]
-pub(crate) fn put_color(op: Op, color: Pixel, x: u32, y: u32, len: u32, plane: &mut Plane)
-    requires columns { x + len ≤ plane.old.w }
-    requires row { y < plane.old.h }
-    requires count { plane.old.painted + len < 2 ^ 64 }
-    ensures { Paints (span x y len) (λ i j value. put op color value) len plane.old plane.new }
+pub(crate) fn put_color(op: Op, color: Pixel, x: u32, y: u32, w: u32, h: u32, plane: &mut Plane)
+    requires columns { x + w ≤ plane.old.w }
+    requires rows { y + h ≤ plane.old.h }
+    requires count { plane.old.painted + w * h < 2 ^ 64 }
+    ensures { Paints (rectangle x y w h) (λ i j value. put op color value) (w * h) plane.old plane.new }
 {
     match op {
-        Op::Copy => plane.fill_span(x, y, len, color),
-        Op::Blend => plane.blend_all(x, y, len, color),
+        Op::Copy => plane.fill_rect(x, y, w, h, color),
+        Op::Blend => plane.blend_rect(x, y, w, h, color),
     }
 }
 

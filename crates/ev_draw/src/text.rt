@@ -176,6 +176,6 @@ fn put_run(bit: bool, op: Op, color: Pixel, x: u32, y: u32, len: u32, plane: &mu
     ensures { Paints (span x y len) (λ i j value. if bit then put op color value else value) len plane.old plane.new }
 {
     if bit {
-        put_color(op, color, x, y, len, plane);
+        put_color(op, color, x, y, len, 1, plane);
     }
 }

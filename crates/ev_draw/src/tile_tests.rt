@@ -107,9 +107,7 @@ fn plane_of(alloc: Global, pixel: Pixel) -> Result<Plane, NoMemory>
     ensures { IfOk result (λ plane. IsSmallPlane plane × (plane.painted ≡ 32)) }
 {
     let mut plane = Plane::new(alloc, 4, 4)?;
-    for y in 0..4 {
-        plane.fill_span(0, y, 4, pixel);
-    }
+    plane.fill_rect(0, 0, 4, 4, pixel);
     Ok(plane)
 }
 

@@ -8,6 +8,7 @@ use Rattle.ev_cmds.specs.declared.mask.Run.{Run}
 use Rattle.ev_draw.specs.Making.{span}
 use Rattle.ev_draw.proofs.Patching.{repainted}
 use Rattle.ev_draw.proofs.Baring.{last_within, run_fits, run_more, no_run, none_next}
+use Rattle.ev_draw.proofs.Solids.{span_painted}
 use Rattle.ev_draw.proofs.bare.clear_columns.Goals as goal
 
 pub put_color-requires-clause-columns : goal.put_color-requires-clause-columns
@@ -36,7 +37,8 @@ loop-run-preserved c =
       is.within,
       run_more c.args.bits y c.loop-run.from run c.args.plane.now c.loop-run.plane c.put_color.new.plane is c.loop-run.invariant.1
           (repainted (span c.from-x.result y c.from-len.result) (span run.left y (run.right - run.left)) (λ (i j : ℕ) (value : Argb). put Copy clear value) (λ (i j : ℕ) (value : Argb). clear) c.from-len.result (run.right - run.left)
-          c.loop-run.plane c.put_color.new.plane (ap₂ (λ (a b : ℕ). span a y b) c.from-x.ensures c.from-len.ensures) c.from-len.ensures (λ i j value has. refl) c.put_color.ensures),
+          c.loop-run.plane c.put_color.new.plane (ap₂ (λ (a b : ℕ). span a y b) c.from-x.ensures c.from-len.ensures) c.from-len.ensures (λ i j value has. refl)
+          (span_painted c.from-x.result y c.from-len.result (λ (i j : ℕ) (value : Argb). put Copy clear value) c.loop-run.plane c.put_color.new.plane c.put_color.ensures)),
     )
 
 pub returns : goal.returns
