@@ -119,3 +119,9 @@ pub record IsDrawn (work : ℤ → ℤ → Bool) (looks : List Look) (left top :
   pub inside : (x y : ℕ) → x < old.w → y < old.h → work (pos (left + x)) (pos (top + y)) ≡ true → tile_at new x y ≡ painted_looks looks (left + x) (top + y) clear
   pub outside : (x y : ℕ) → x < old.w → y < old.h → work (pos (left + x)) (pos (top + y)) ≡ false → tile_at new x y ≡ tile_at old x y
   pub count : new.painted ≤ old.painted + cost work looks left top
+
+-- a plane keeps its size, and at most n pixels more count as painted
+pub record PaintsAtMost (n : ℕ) (old new : Tile) : Type 0 where
+  pub width : new.w ≡ old.w
+  pub height : new.h ≡ old.h
+  pub count : new.painted ≤ old.painted + n

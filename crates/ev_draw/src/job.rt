@@ -2,9 +2,10 @@
 ghost use Rattle.std.specs.Prelude.{◌≡◌, ℤ, Bool};
 ghost use Rattle.std.specs.Arc.{arc_value};
 ghost use Rattle.ev_model.specs.Capture.{Capture};
-ghost use Rattle.ev_cmds.specs.Cuts.{IsCutOf};
+ghost use Rattle.ev_cmds.specs.Cuts.{IsCutOf, most_painted};
+ghost use Rattle.ev_cmds.specs.Jobs.{IsPlaced};
 ghost use Rattle.ev_cmds.specs.declared.tile.TileCommands.{TileCommands};
-ghost use Rattle.ev_draw.specs.Making.{IsDrawn};
+ghost use Rattle.ev_draw.specs.Making.{IsDrawn, PaintsAtMost};
 ghost use Rattle.ev_draw.specs.Jobs as jobs;
 
 use crate::sheet::draw_sheet;
@@ -71,7 +72,9 @@ impl TileDone {
 /// elsewhere what it had; its count rises by at most the cost of the tile (docs/CANVAS.md, Painting;
 /// docs/ARCHITECTURE.md, Tiles). It takes no memory.
 pub fn draw(job: TileJob) -> TileDone
-    ensures { (work : ℤ → ℤ → Bool) (capture : Capture) (d : TileCommands) → IsCutOf work capture job.cut
+    ensures placed { (d : TileCommands) → IsPlaced job.cut.w job.cut.h (jobs.tile_of job d) }
+    ensures most { PaintsAtMost most_painted job.plane result }
+    ensures drawn { (work : ℤ → ℤ → Bool) (capture : Capture) (d : TileCommands) → IsCutOf work capture job.cut
         → IsDrawn work capture.looks (jobs.tile_of job d).left (jobs.tile_of job d).top job.plane result }
 {
     let TileJob {

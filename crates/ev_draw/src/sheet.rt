@@ -4,7 +4,7 @@ ghost use Rattle.ev_model.specs.Look.{Look};
 ghost use Rattle.ev_cmds.specs.Masks.{count_of};
 ghost use Rattle.ev_cmds.specs.Patches.{total};
 ghost use Rattle.ev_cmds.specs.Sheets.{Fits, IsSheetOn, Shows, patches_of};
-ghost use Rattle.ev_draw.specs.Making.{CarriesOutAll, IsDrawn};
+ghost use Rattle.ev_draw.specs.Making.{CarriesOutAll, IsDrawn, PaintsAtMost};
 
 use crate::bare::clear_places;
 use crate::command::carry_out;
@@ -19,7 +19,8 @@ pub(crate) fn draw_sheet(sheet: &Sheet, left: u32, top: u32, plane: &mut Plane)
     requires width { plane.old.w ≤ 64 }
     requires height { plane.old.h ≤ 64 }
     requires count { plane.old.painted + count_of sheet.now.bare + total (patches_of sheet.now.commands.items) < 2 ^ 64 }
-    ensures { (work : ℤ → ℤ → Bool) (looks : List Look) → Shows work looks left top sheet.now.bare sheet.now.commands.items
+    ensures most { PaintsAtMost (count_of sheet.now.bare + total (patches_of sheet.now.commands.items)) plane.old plane.new }
+    ensures drawn { (work : ℤ → ℤ → Bool) (looks : List Look) → Shows work looks left top sheet.now.bare sheet.now.commands.items
         → IsDrawn work looks left top plane.old plane.new }
 {
     clear_places(&sheet.bare, plane);

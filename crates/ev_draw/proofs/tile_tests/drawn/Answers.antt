@@ -12,4 +12,4 @@ returns c =
     let capture = capture_on 4 4 c.args.records.now in
     let cut = subst (λ (cut : Cut). IsCutOf work capture cut) (sym c.in_ok-commands-2.ensures.ok) c.in_ok-commands.ensures in
     subst IsSmallPlane (sym c.plane-2.ensures)
-    (still_small work capture _ c.for_tile.result.now c.new-3.result c.in_ok-plane.plane c.draw.result c.new-3.ensures cut c.in_ok-plane.ensures.0 (c.draw.ensures work capture c.for_tile.result.now))
+    (still_small work capture _ c.for_tile.result.now c.new-3.result c.in_ok-plane.plane c.draw.result c.new-3.ensures cut c.in_ok-plane.ensures.0 (c.draw.ensures.drawn work capture c.for_tile.result.now))
