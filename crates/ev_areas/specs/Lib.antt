@@ -1,0 +1,3 @@
+pub mod Edges
+pub mod Packed
+pub mod Meeting
