@@ -25,8 +25,7 @@ use Rattle.ev_model.specs.declared.content.Content.{Content}
 use Rattle.ev_model.specs.declared.content.Content.TheVariants as content
 use Rattle.ev_model.specs.declared.object.Op.{Op}
 use Rattle.ev_model.specs.declared.object.Op.TheVariants.{Blend, Copy}
-use Rattle.ev_fill.proofs.Images.{source_below}
-use Rattle.ev_fill.proofs.Turns.{phase_within}
+use Rattle.ev_model.proofs.Axes.{phase_within, source_below}
 use Rattle.ev_cmds.specs.Opaque.{is_full_along, has_no_middle, shows_middle, hides, is_full, image_hides, content_hides, replaces, IsSoundImage, IsSoundContent}
 use Rattle.ev_cmds.specs.Sheets.{IsPaintable, IsSolid}
 use Rattle.ev_cmds.proofs.Culling.{no_holds}

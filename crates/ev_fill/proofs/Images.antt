@@ -7,7 +7,7 @@ use Rattle.std.proofs.lemmas.Nat.{div_below}
 use Rattle.ev_argb.specs.Argb.{Argb}
 use Rattle.ev_model.specs.Axis.{IsAxis, phase, low_source, low_part, high_part, middle_source, middle_part, is_middle, source_at}
 use Rattle.ev_model.specs.Raster.{Raster, row}
-use Rattle.ev_model.specs.Sample.{columns_of, rows_of, filled_rows, raster_at, axes_sample, image_sample, sample}
+use Rattle.ev_model.specs.Sample.{columns_of, rows_of, filled_columns, filled_rows, raster_at, axes_sample, image_sample, sample}
 use Rattle.ev_model.specs.Limits.{IsFill}
 use Rattle.ev_model.specs.declared.content.Border.{Border}
 use Rattle.ev_model.specs.declared.content.Fill.{Fill}
@@ -17,41 +17,11 @@ use Rattle.ev_model.specs.declared.content.ImagePart.{ImagePart}
 use Rattle.ev_model.specs.declared.content.Content.TheVariants.{Image}
 use Rattle.ev_fill.specs.Parts.{place_sample, shown_row}
 use Rattle.ev_fill.specs.declared.axes.ShownRow.{ShownRow}
-use Rattle.ev_fill.proofs.Runs.{run_same, run_constant}
+use Rattle.ev_model.proofs.Runs.{run_same, run_constant}
 use Rattle.ev_fill.proofs.Places.{get_drop}
 use Rattle.ev_fill.proofs.Stretched.{mul-lt_right}
-use Rattle.ev_fill.proofs.Turns.{phase_more, phase_within}
-
--- a source place lies in the image
-abbrev some_place : ℕ → Option ℕ
-some_place x = Some x
-
-some_is : (x y : ℕ) → some_place x ≡ some_place y → x ≡ y
-some_is x y e = cc
-
-above_zero : (n : ℕ) → (n == 0) ≡ false → 0 < n
-above_zero zero e = absurd cc
-above_zero (suc n) e = omega arith
-
-middle_below : (axis : Axis) (u x : ℕ) → low_part axis ≤ u → u < axis.len - high_part axis → (none : Bool) → (middle_source axis == 0) ≡ none
-    → cond none None (Some (low_source axis + (u - low_part axis) * middle_source axis / middle_part axis)) ≡ some_place x → x < axis.source
-middle_below axis u x low high true is e = absurd cc
-middle_below axis u x low high false is e =
-    let some : 0 < middle_source axis = above_zero (middle_source axis) is in
-    let product : (u - low_part axis) * middle_source axis < middle_part axis * middle_source axis = mul-lt_right (u - low_part axis) (middle_part axis) (middle_source axis) (omega arith) some in
-    let below = div_below ((u - low_part axis) * middle_source axis) (middle_part axis) (middle_source axis) (omega arith) (omega (arith, product)) in
-    let same = some_is (low_source axis + (u - low_part axis) * middle_source axis / middle_part axis) x e in
-    omega (arith, below, same)
-
-pub source_below : (axis : Axis) (u x : ℕ) → IsAxis axis → u < axis.len → source_at axis u ≡ Some x → x < axis.source
-source_below axis u x limits within e =
-    elim (cases_lt u (low_part axis)) [
-      | inl low ↦ let is : u ≡ x = some_is u x (rw (lt-ltb u (low_part axis) low) at e) in omega arith
-      | inr low ↦ elim (cases_lt u (axis.len - high_part axis)) [
-        | inl high ↦ middle_below axis u x low high (middle_source axis == 0) refl (rw (le-ltb u (low_part axis) low, lt-leb (axis.len - high_part axis) u high) at e)
-        | inr high ↦ let is : axis.source - (axis.len - u) ≡ x = some_is (axis.source - (axis.len - u)) x (rw (le-ltb u (low_part axis) low, le-leb (axis.len - high_part axis) u high) at e) in omega (arith, limits.source_low)
-      ]
-    ]
+use Rattle.ev_fill.proofs.Turns.{phase_more}
+use Rattle.ev_model.proofs.Axes.{phase_within, source_below}
 
 -- the pixel at a place of a row
 get_take : (n : ℕ) (pixels : List Argb) (x : ℕ) → x < n → slice_get (take n pixels) x ≡ slice_get pixels x
@@ -116,6 +86,16 @@ pub record AreColumns (image : Raster) (part : ImagePart) (w : ℕ) (columns : A
   pub are : columns ≡ columns_of part image w
   pub limits : IsAxis columns
   pub wide : columns.source ≡ image.w
+
+columns_some : (fill : Fill) (border : Border) (source w : ℕ) → IsFill fill → 0 < w → 0 < (filled_columns fill border source w).len
+columns_some Filled border source w limits some = some
+columns_some (Area x y fw fh) border source w limits some = omega (arith, limits.w_low)
+
+pub found_columns : (image : Raster) (part : ImagePart) (w : ℕ) (columns : Axis) → columns ≡ columns_of part image w → (IsFill part.fill → w ≤ 1000000 → 0 < columns.len → IsAxis columns)
+    → columns.source ≡ image.w → IsFill part.fill → 0 < w → w ≤ 1000000 → AreColumns image part w columns
+found_columns image part w columns are axis wide fill some most =
+    let len : 0 < columns.len = subst (λ (c : Axis). 0 < c.len) (sym are) (columns_some part.fill part.border image.w w fill some) in
+    record { are = are; limits = axis fill most len; wide = wide }
 
 pub image_sample_is : (image : Raster) (part : ImagePart) (w h : ℕ) (columns : Axis) (i j : ℕ) → AreColumns image part w columns → IsFill part.fill → 0 < h
     → image_sample image part w h i j ≡ option_and_then (in_shown image columns i) (shown_row image part h j)

@@ -1,4 +1,3 @@
-pub mod Runs
 pub mod Turns
 pub mod Places
 pub mod Stretched

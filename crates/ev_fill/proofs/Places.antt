@@ -9,7 +9,7 @@ use Rattle.ev_argb.specs.Argb.{Argb}
 use Rattle.ev_model.specs.Axis.{low_source, low_part, high_part, middle_source, middle_part, is_middle}
 use Rattle.ev_model.specs.declared.axis.Axis.{Axis}
 use Rattle.ev_fill.specs.Parts.{place_sample}
-use Rattle.ev_fill.proofs.Runs.{run_same, run_constant}
+use Rattle.ev_model.proofs.Runs.{run_same, run_constant}
 
 and_false : (b : Bool) → (b && false) ≡ false
 and_false true = refl

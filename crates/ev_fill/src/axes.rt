@@ -1,10 +1,9 @@
 // The axes of an image that fills an object: its columns, and the row that is shown.
 ghost use Rattle.std.specs.Prelude.{◌≡◌, ◌+◌, ◌≤◌, ◌<◌, ◌&&◌, not, IfSome};
-ghost use Rattle.ev_model.specs.Axis.{IsAxis, is_middle};
+ghost use Rattle.ev_model.specs.Axis.{is_middle};
 ghost use Rattle.ev_model.specs.Limits.{IsFill};
-ghost use Rattle.ev_model.specs.Sample.{columns_of, rows_of};
 
-use ev_model::{Axis, Fill, Image, ImagePart};
+use ev_model::{Axis, Image, ImagePart};
 
 // The row of an image that a row of an object shows, and whether it is shown without what lies
 // between the borders of its columns.
@@ -25,7 +24,7 @@ impl ShownRow {
         ensures value { result ≡ shown_row image.now part.now h j }
         ensures within { IfSome result (λ shown. shown.y < image.now.h) }
     {
-        let rows = rows_of(part, image, h);
+        let rows = part.rows(image, h);
         let v = rows.phase(j);
         let y = rows.source_at(v)?;
         let hidden = is_hidden(&rows, part.center, v);
@@ -38,44 +37,4 @@ fn is_hidden(rows: &Axis, center: bool, v: u32) -> bool
     ensures { result ≡ (not center && is_middle rows.now v) }
 {
     !center && rows.is_middle(v)
-}
-
-pub(crate) fn columns_of(part: &ImagePart, image: &Image, w: u32) -> Axis
-    requires fill { IsFill part.now.fill }
-    requires width { (0 < w) × (w ≤ 1000000) }
-    ensures value { result ≡ columns_of part.now image.now w }
-    ensures axis { IsAxis result }
-    ensures source { result.source ≡ image.now.w }
-{
-    let (start, len) = match part.fill {
-        Fill::Filled => (0, w),
-        Fill::Area { x, w, .. } => (x, w),
-    };
-    Axis {
-        start,
-        len,
-        source: image.width(),
-        low: part.border.l,
-        high: part.border.r,
-    }
-}
-
-fn rows_of(part: &ImagePart, image: &Image, h: u32) -> Axis
-    requires fill { IsFill part.now.fill }
-    requires height { (0 < h) × (h ≤ 1000000) }
-    ensures value { result ≡ rows_of part.now image.now h }
-    ensures axis { IsAxis result }
-    ensures source { result.source ≡ image.now.h }
-{
-    let (start, len) = match part.fill {
-        Fill::Filled => (0, h),
-        Fill::Area { y, h, .. } => (y, h),
-    };
-    Axis {
-        start,
-        len,
-        source: image.height(),
-        low: part.border.t,
-        high: part.border.b,
-    }
 }

@@ -4,7 +4,7 @@ ghost use Rattle.std.specs.List.{range_with_len};
 ghost use Rattle.ev_model.specs.Limits.{IsFill};
 ghost use Rattle.ev_model.specs.Sample.{image_sample};
 
-use crate::axes::{ShownRow, columns_of};
+use crate::axes::ShownRow;
 use crate::form::Form;
 use crate::row::{fill_row, place_sample};
 use crate::run::empty;
@@ -25,7 +25,7 @@ pub(crate) fn image_sample(
     requires place { (i < w) × (j < h) }
     ensures { result ≡ image_sample image.now part.now w h i j }
 {
-    let columns = columns_of(part, image, w);
+    let columns = part.columns(image, w);
     let shown = ShownRow::at(part, image, h, j)?;
     place_sample(image.row(shown.y), &columns, shown.hidden, columns.phase(i))
 }
@@ -46,7 +46,7 @@ pub(crate) fn image_row<T: Form>(
     requires room { i + length into.old ≤ w }
     ensures { into.new ≡ map (λ column. T.form (image_sample image.now part.now w h column j)) (range_with_len i (length into.old)) }
 {
-    let columns = columns_of(part, image, w);
+    let columns = part.columns(image, w);
     match ShownRow::at(part, image, h, j) {
         Some(shown) => {
             let phase = columns.phase(i);

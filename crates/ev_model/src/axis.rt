@@ -1,5 +1,10 @@
 // One axis of an image that fills an object: the columns, or the rows.
 ghost use Rattle.std.specs.Prelude.{◌≡◌, ℕ, ◌+◌, ◌-◌, ◌*◌, ◌/◌, ◌≤◌, ◌<◌, min, IfSome};
+ghost use Rattle.ev_model.specs.Axis.{IsAxis};
+ghost use Rattle.ev_model.specs.Limits.{IsFill};
+ghost use Rattle.ev_model.specs.Sample.{columns_of, rows_of};
+
+use crate::{Fill, Image, ImagePart};
 
 /// Where a fill starts in its object and how long it is, how long the image is, and how much of it
 /// keeps its size at the low end and at the high end, all in pixels (docs/CANVAS.md, "Samples").
@@ -13,7 +18,7 @@ pub struct Axis {
 }
 
 impl Axis {
-    ghost use Rattle.ev_model.specs.Axis.{IsAxis, phase, low_source, high_source, low_part, high_part, middle_source, middle_part, is_middle, source_at};
+    ghost use Rattle.ev_model.specs.Axis.{phase, low_source, high_source, low_part, high_part, middle_source, middle_part, is_middle, source_at};
 
     /// The place in the fill of place i of the object.
     pub fn phase(&self, i: u32) -> u32
@@ -95,5 +100,45 @@ impl Axis {
         let offset = u - self.low_part();
         let stretched = u64::from(offset) * u64::from(middle) / u64::from(self.middle_part());
         Some(self.low_source() + stretched as u32)
+    }
+}
+
+impl ImagePart {
+    /// The columns of an image in an object that is w pixels wide (docs/CANVAS.md, "Samples").
+    pub fn columns(&self, image: &Image, w: u32) -> Axis
+        ensures value { result ≡ columns_of self.now image.now w }
+        ensures axis { IsFill self.now.fill → w ≤ 1000000 → 0 < result.len → IsAxis result }
+        ensures source { result.source ≡ image.now.w }
+    {
+        let (start, len) = match self.fill {
+            Fill::Filled => (0, w),
+            Fill::Area { x, w, .. } => (x, w),
+        };
+        Axis {
+            start,
+            len,
+            source: image.width(),
+            low: self.border.l,
+            high: self.border.r,
+        }
+    }
+
+    /// The rows of an image in an object that is h pixels high (docs/CANVAS.md, "Samples").
+    pub fn rows(&self, image: &Image, h: u32) -> Axis
+        ensures value { result ≡ rows_of self.now image.now h }
+        ensures axis { IsFill self.now.fill → h ≤ 1000000 → 0 < result.len → IsAxis result }
+        ensures source { result.source ≡ image.now.h }
+    {
+        let (start, len) = match self.fill {
+            Fill::Filled => (0, h),
+            Fill::Area { y, h, .. } => (y, h),
+        };
+        Axis {
+            start,
+            len,
+            source: image.height(),
+            low: self.border.t,
+            high: self.border.b,
+        }
     }
 }

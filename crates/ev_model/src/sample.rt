@@ -5,10 +5,10 @@ ghost use Rattle.ev_geom.specs.Area.{IsPlace};
 ghost use Rattle.ev_model.specs.Axis.{IsAxis};
 ghost use Rattle.ev_model.specs.Limits.{IsContent, IsFill, IsObject};
 ghost use Rattle.ev_model.specs.Glyphs.{IsCharacter, IsText, glyph_bit, text_bit, width_of, row_of};
-ghost use Rattle.ev_model.specs.Sample.{columns_of, rows_of, axes_sample, image_sample, text_sample, sample};
+ghost use Rattle.ev_model.specs.Sample.{axes_sample, image_sample, text_sample, sample};
 ghost use Rattle.ev_model.specs.Paint.{sample_at};
 
-use crate::{Axis, Content, Fill, Font, Image, ImagePart, Object};
+use crate::{Axis, Content, Font, Image, ImagePart, Object};
 use ev_argb::Pixel;
 
 // The sample of an object at a place of the canvas that lies in it.
@@ -60,52 +60,12 @@ fn image_sample(image: &Image, part: &ImagePart, w: u32, h: u32, i: u32, j: u32)
     requires fill { IsFill part.now.fill }
     ensures { result ≡ image_sample image.now part.now w h i j }
 {
-    let columns = columns_of(part, image, w);
-    let rows = rows_of(part, image, h);
+    let columns = part.columns(image, w);
+    let rows = part.rows(image, h);
     if 0 < columns.len && 0 < rows.len {
         axes_sample(image, &columns, &rows, part.center, i, j)
     } else {
         None
-    }
-}
-
-fn columns_of(part: &ImagePart, image: &Image, w: u32) -> Axis
-    requires fill { IsFill part.now.fill }
-    requires width { w ≤ 1000000 }
-    ensures value { result ≡ columns_of part.now image.now w }
-    ensures axis { 0 < result.len → IsAxis result }
-    ensures source { result.source ≡ image.now.w }
-{
-    let (start, len) = match part.fill {
-        Fill::Filled => (0, w),
-        Fill::Area { x, w, .. } => (x, w),
-    };
-    Axis {
-        start,
-        len,
-        source: image.width(),
-        low: part.border.l,
-        high: part.border.r,
-    }
-}
-
-fn rows_of(part: &ImagePart, image: &Image, h: u32) -> Axis
-    requires fill { IsFill part.now.fill }
-    requires height { h ≤ 1000000 }
-    ensures value { result ≡ rows_of part.now image.now h }
-    ensures axis { 0 < result.len → IsAxis result }
-    ensures source { result.source ≡ image.now.h }
-{
-    let (start, len) = match part.fill {
-        Fill::Filled => (0, h),
-        Fill::Area { y, h, .. } => (y, h),
-    };
-    Axis {
-        start,
-        len,
-        source: image.height(),
-        low: part.border.t,
-        high: part.border.b,
     }
 }
 

@@ -1,4 +1,3 @@
 pub mod Four
 pub mod Spellings
-pub mod Runs
 pub mod Texts

@@ -9,7 +9,7 @@ use Rattle.ev_argb.specs.Argb.{Argb}
 use Rattle.ev_model.specs.Glyphs.{Glyphs, width_of, row_of, glyph_bit, text_bit}
 use Rattle.ev_model.specs.Sample.{text_sample}
 use Rattle.ev_text.specs.Rows.{bit_sample, IsInFirst}
-use Rattle.ev_text.proofs.Runs.{run_same, run_constant}
+use Rattle.ev_model.proofs.Runs.{run_same, run_constant}
 
 -- a row below the font has no bit
 low_bit : (font : Glyphs) (text : List ℕ) (x y : ℕ) → font.height ≤ y → text_bit font text x y ≡ false

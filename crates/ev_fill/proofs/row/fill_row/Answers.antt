@@ -2,7 +2,7 @@ use Rattle.std.proofs.Common.{◌≡◌, ℕ, ◌+◌, ◌-◌, ◌%◌, ◌<◌
 use Rattle.std.specs.List.{range_with_len}
 use Rattle.std.proofs.lemmas.List.{length-take, length-drop}
 use Rattle.std.proofs.lemmas.Nat.{mod_below}
-use Rattle.ev_fill.proofs.Runs.{run_put, length-put_run}
+use Rattle.ev_model.proofs.Runs.{run_put, length-put_run}
 use Rattle.ev_fill.specs.Parts.{place_sample}
 use Rattle.ev_fill.proofs.Turns.{wrapped, run_ahead}
 use Rattle.ev_fill.proofs.row.fill_row.Goals as goal

@@ -1,7 +1,7 @@
 use Rattle.std.proofs.Common.{ℕ, ◌*◌, ◌/◌, ◌∙◌, refl, sym, ap, arith}
 use Rattle.std.specs.Prelude.{slice_get}
 use Rattle.std.proofs.lemmas.Option.{slice_get_read}
-use Rattle.ev_fill.proofs.Runs.{run_more}
+use Rattle.ev_model.proofs.Runs.{run_more}
 use Rattle.ev_fill.proofs.Stretched.{place_from}
 use Rattle.ev_fill.proofs.run.stretch_run.Goals as goal
 

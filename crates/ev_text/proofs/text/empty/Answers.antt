@@ -1,5 +1,5 @@
 use Rattle.std.proofs.Common.{None}
-use Rattle.ev_text.proofs.Runs.{constant_more}
+use Rattle.ev_model.proofs.Runs.{constant_more}
 use Rattle.ev_text.proofs.text.empty.Goals as goal
 
 pub loop-k-preserved : goal.loop-k-preserved

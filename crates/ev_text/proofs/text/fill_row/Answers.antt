@@ -3,7 +3,7 @@ use Rattle.std.specs.List.{range_with_len}
 use Rattle.std.proofs.lemmas.List.{length-take, length-drop}
 use Rattle.ev_model.specs.Glyphs.{width_of}
 use Rattle.ev_model.specs.Sample.{text_sample}
-use Rattle.ev_text.proofs.Runs.{run_put, run_end, length-put_run}
+use Rattle.ev_model.proofs.Runs.{run_put, run_end, length-put_run}
 use Rattle.ev_text.proofs.Texts.{low_run, GoesOn, goes_on, glyph_run, end_run, in_first, glyph_args}
 use Rattle.ev_text.proofs.text.fill_row.Goals as goal
 

@@ -1,6 +1,6 @@
 use Rattle.std.proofs.Common.{Some, arith}
 use Rattle.ev_argb.specs.Argb.{Argb}
-use Rattle.ev_fill.proofs.Runs.{copy_more}
+use Rattle.ev_model.proofs.Runs.{copy_more}
 use Rattle.ev_fill.proofs.form.OptionPixelForm.copy.Goals as goal
 
 pub loop-k-preserved : goal.loop-k-preserved
