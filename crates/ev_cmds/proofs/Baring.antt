@@ -1,16 +1,15 @@
 -- The bare places of tiles, found edge by edge.
-use Rattle.std.proofs.Common.{ℕ, ◌≡◌, ◌+◌, ◌<◌, Bool, true, false, ◌&&◌, ◌||◌, nat_lt, nat_le, pos, List, [], ◌∷◌, ◌++◌, take, length, get_or, Option, Some, None, is_some, refl, sym, ap, ap₂, ◌∙◌, ⊎_elim, min, max, arith}
-use Rattle.std.proofs.lemmas.Bool.{and_parts, or_cases, leb-true, ltb-true}
+use Rattle.std.proofs.Common.{ℕ, ◌≡◌, ◌+◌, ◌<◌, Bool, true, false, ◌&&◌, ◌||◌, nat_lt, pos, List, [], ◌∷◌, ◌++◌, take, length, get_or, Option, Some, None, is_some, refl, sym, ap, ap₂, ◌∙◌, arith}
 use Rattle.std.proofs.lemmas.List.Folds.{list_any_at, list_any_more, list_any-append}
 use Rattle.ev_geom.specs.Area.{Area, holds}
 use Rattle.ev_geom.specs.Bands.{has_pixel}
-use Rattle.ev_cmds.specs.Edges.{has_pixel_at, join, AreEdgesOf, IsPatchOn, IsPartOn, any_has}
+use Rattle.ev_areas.specs.Edges.{has_pixel_at, AreEdgesOf}
+use Rattle.ev_cmds.specs.Parts.{IsPatchOn, IsPartOn, any_has}
 use Rattle.ev_cmds.specs.Jobs.{HasNone, HasOne}
 use Rattle.ev_cmds.specs.Masks.{has_bit, Adds}
-use Rattle.ev_cmds.specs.declared.edges.Edges.{Edges}
+use Rattle.ev_areas.specs.declared.edges.Edges.{Edges}
 use Rattle.ev_cmds.specs.declared.patch.Patch.{Patch}
 use Rattle.ev_cmds.proofs.Fitting.{corner}
-use Rattle.ev_cmds.proofs.Placing.{lies_in}
 
 or_false : (b : Bool) → (b || false) ≡ b
 or_false true = refl
@@ -66,34 +65,3 @@ edges_more rects i w h d rect found e low before is are x y =
     ∙ cut_or (has_pixel (take i rects) (pos x) (pos y)) (holds rect (pos x) (pos y)) (nat_lt x w && nat_lt y h)
     ∙ ap (λ (area : Area). (has_pixel (take i rects) (pos x) (pos y) || holds area (pos x) (pos y)) && (nat_lt x w && nat_lt y h)) is
     ∙ sym (ap (λ (b : Bool). b && (nat_lt x w && nat_lt y h)) (list_any_more (λ (area : Area). holds area (pos x) (pos y)) rects i d low))
-
--- edges between which others lie have their pixels
-join_left : (a b : Edges) (x y : ℕ) → has_pixel_at a x y ≡ true → has_pixel_at (join a b) x y ≡ true
-join_left a b x y here =
-    let both = and_parts (nat_le a.left x && nat_lt x a.right) (nat_le a.top y && nat_lt y a.bottom) here in
-    let across = and_parts (nat_le a.left x) (nat_lt x a.right) both.0 in
-    let down = and_parts (nat_le a.top y) (nat_lt y a.bottom) both.1 in
-    let l = leb-true a.left x across.0 in
-    let r = ltb-true x a.right across.1 in
-    let t = leb-true a.top y down.0 in
-    let u = ltb-true y a.bottom down.1 in
-    ap₂ ◌&&◌ (lies_in (min a.left b.left) (max a.right b.right) x (omega arith) (omega arith)) (lies_in (min a.top b.top) (max a.bottom b.bottom) y (omega arith) (omega arith))
-
-join_right : (a b : Edges) (x y : ℕ) → has_pixel_at b x y ≡ true → has_pixel_at (join a b) x y ≡ true
-join_right a b x y here =
-    let both = and_parts (nat_le b.left x && nat_lt x b.right) (nat_le b.top y && nat_lt y b.bottom) here in
-    let across = and_parts (nat_le b.left x) (nat_lt x b.right) both.0 in
-    let down = and_parts (nat_le b.top y) (nat_lt y b.bottom) both.1 in
-    let l = leb-true b.left x across.0 in
-    let r = ltb-true x b.right across.1 in
-    let t = leb-true b.top y down.0 in
-    let u = ltb-true y b.bottom down.1 in
-    ap₂ ◌&&◌ (lies_in (min a.left b.left) (max a.right b.right) x (omega arith) (omega arith)) (lies_in (min a.top b.top) (max a.bottom b.bottom) y (omega arith) (omega arith))
-
-pub bounds_more : (all : List Edges) (i : ℕ) (d one bounds : Edges) → i < length all → one ≡ get_or all i d → ((x y : ℕ) → any_has (take i all) x y ≡ true → has_pixel_at bounds x y ≡ true)
-    → (x y : ℕ) → any_has (take (i + 1) all) x y ≡ true → has_pixel_at (join bounds one) x y ≡ true
-bounds_more all i d one bounds low is before x y here =
-    ⊎_elim
-    (λ (old : any_has (take i all) x y ≡ true). join_left bounds one x y (before x y old))
-    (λ (new : has_pixel_at (get_or all i d) x y ≡ true). join_right bounds one x y (ap (λ (e : Edges). has_pixel_at e x y) is ∙ new))
-    (or_cases (any_has (take i all) x y) (has_pixel_at (get_or all i d) x y) (sym (any_more all i d x y low) ∙ here))

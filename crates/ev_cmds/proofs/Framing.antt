@@ -1,5 +1,5 @@
 -- The tiles of a frame are opened one after the other.
-use Rattle.std.proofs.Common.{ℕ, ◌≡◌, ◌+◌, ◌*◌, ◌/◌, ◌%◌, ◌<◌, ◌≤◌, Bool, true, false, ◌&&◌, ℤ, pos, List, [], ◌∷◌, ◌++◌, length, replicate, filter, All, refl, sym, ap, ap₂, ◌∙◌, subst, ⊎_elim, arith}
+use Rattle.std.proofs.Common.{ℕ, zero, suc, ◌≡◌, ◌+◌, ◌*◌, ◌/◌, ◌%◌, ◌<◌, ◌≤◌, Bool, true, false, ◌&&◌, ℤ, pos, List, [], ◌∷◌, ◌++◌, length, replicate, filter, All, refl, sym, ap, ap₂, ◌∙◌, subst, ⊎_elim, arith}
 use Rattle.std.specs.Prelude.{slice_index, slice_set, if◌then◌else◌}
 use Rattle.std.specs.List.{range_with_len}
 use Rattle.std.proofs.Math.Nat.{mul-le-mul_left}
@@ -12,12 +12,13 @@ use Rattle.ev_argb.specs.Grid.{side_of}
 use Rattle.ev_geom.specs.Tiles.{tiles_along, holds_tile}
 use Rattle.ev_geom.proofs.Tilings.{held, holds, kept_tile, left_tile}
 use Rattle.ev_region.specs.Count.{LiesWithin}
-use Rattle.ev_cmds.specs.Edges.{has_pixel_at, any_has}
+use Rattle.ev_areas.specs.Edges.{has_pixel_at}
+use Rattle.ev_cmds.specs.Parts.{any_has}
 use Rattle.ev_cmds.specs.Frames.{IsSized, IsClosed, IsLike, AreOpen, PushesJob, OpensTile, OpensRow, IsOpened}
 use Rattle.ev_cmds.specs.Jobs.{HasNone, HasOne, IsTileOf, IsTable, tiles_of}
 use Rattle.ev_cmds.specs.Masks.{has_bit}
 use Rattle.ev_cmds.specs.Sheets.{Shows, Fits, put_all, layers}
-use Rattle.ev_cmds.specs.declared.edges.Edges.{Edges}
+use Rattle.ev_areas.specs.declared.edges.Edges.{Edges}
 use Rattle.ev_cmds.specs.declared.frame.Frame.{Frame}
 use Rattle.ev_cmds.specs.declared.table.Table.{Table}
 use Rattle.ev_cmds.specs.declared.tile.TileCommands.{TileCommands}
@@ -237,6 +238,17 @@ columns_all near row column old new all opens = record {
     one_more : (a b : ℕ) → a * b + b ≡ (a + 1) * b
     one_more a b = omega arith
 
+-- where no edges are near, no tile of the row is opened
+pub left_row : (near : List Edges) (row : ℕ) (frame : Frame) → length near ≡ 0 → OpensRow near row frame frame
+left_row [] row frame none = columns_all [] row (tiles_along frame.table.w) frame frame refl (columns (tiles_along frame.table.w) (omega arith))
+  where
+    columns : (column : ℕ) → column ≤ tiles_along frame.table.w → OpensColumns [] row column frame frame
+    columns zero within = no_columns [] row frame
+    columns (suc n) within =
+        subst (λ (k : ℕ). OpensColumns [] row k frame frame) (let e : n + 1 ≡ suc n = omega arith in e)
+        (columns_more [] row n frame frame frame (columns n (omega arith)) (none_opened [] row n frame (omega arith) (λ x y wide tall. refl)))
+left_row (e ∷ near) row frame none = absurd (omega (arith, none))
+
 -- the rows of tiles before a row are opened
 pub record OpensRows (work : ℤ → ℤ → Bool) (row : ℕ) (old new : Frame) : Type 0 where
   pub like : IsLike old.table new.table
@@ -275,9 +287,9 @@ rows_more work all near row old mid new same kept before one = record {
 at_most : (a b n : ℕ) → a ≤ 64 → b ≤ 64 → n ≤ a * b → n ≤ 4096
 at_most a b n p q h = let most : a * b ≤ a * 64 = mul-le-mul_left a q in omega arith
 
-pub all_opened : (work : ℤ → ℤ → Bool) (all : List Edges) (bounds : Edges) (w h row : ℕ) (old new : Frame) → IsClosed bounds w h old → LiesWithin w h work → ((x y : ℕ) → any_has all x y ≡ work (pos x) (pos y)) → ((x y : ℕ) → any_has all x y ≡ true → has_pixel_at bounds x y ≡ true)
+pub all_opened : (work : ℤ → ℤ → Bool) (bounds : Edges) (w h row : ℕ) (old new : Frame) → IsClosed bounds w h old → LiesWithin w h work → ((x y : ℕ) → x < w → y < h → work (pos x) (pos y) ≡ true → has_pixel_at bounds x y ≡ true)
     → row ≡ tiles_along h → OpensRows work row old new → IsOpened work w h new
-all_opened work all bounds w h row old new closed within same covered end opens =
+all_opened work bounds w h row old new closed within around end opens =
     let width : new.table.w ≡ w = opens.like.width ∙ closed.width in
     let height : new.table.h ≡ h = opens.like.height ∙ closed.height in
     record {
@@ -286,10 +298,16 @@ all_opened work all bounds w h row old new closed within same covered end opens 
       height = height;
       bounds = record {
         canvas = rw (width, height) within;
-        edges = λ x y inside. subst (λ (e : Edges). has_pixel_at e x y ≡ true) (sym (opens.like.bounds ∙ closed.bounds_kept)) (covered x y (same x y ∙ inside));
+        edges = λ x y inside. subst (λ (e : Edges). has_pixel_at e x y ≡ true) (sym (opens.like.bounds ∙ closed.bounds_kept)) (around x y (column_within x y inside) (row_within x y inside) inside);
       };
       tiles = opens.opened.tiles ∙ ap₂ (λ (across n : ℕ). filter (holds_tile work across) (range_with_len 0 n)) (ap tiles_along width) (ap₂ (λ (r v : ℕ). r * tiles_along v) end closed.width);
       few = at_most row (tiles_along old.table.w) (length (tiles_of new.jobs.items)) (omega (arith, end, closed.height, closed.sized.height)) (omega (arith, closed.sized.width)) opens.opened.few;
       table = subst (λ (n : ℕ). IsTable new.table.places.items n (tiles_of new.jobs.items)) (ap₂ (λ (a b : ℕ). tiles_along b * tiles_along a) width height) opens.opened.table;
       each = subst (λ (a : ℕ). All (IsTileOf work [] a h) new.jobs.items) width (subst (λ (b : ℕ). All (IsTileOf work [] new.table.w b) new.jobs.items) height opens.opened.each);
     }
+  where
+    column_within : (x y : ℕ) → work (pos x) (pos y) ≡ true → x < w
+    column_within x y inside = ⊎_elim (λ (a : x < w). a) (λ (a : w ≤ x). absurd (let none = within.right x y a in cc)) (cases_lt x w)
+
+    row_within : (x y : ℕ) → work (pos x) (pos y) ≡ true → y < h
+    row_within x y inside = ⊎_elim (λ (a : y < h). a) (λ (a : h ≤ y). absurd (let none = within.below x y a in cc)) (cases_lt y h)

@@ -1,4 +1,3 @@
-pub mod Edging
 pub mod Placing
 pub mod Masking
 pub mod Running
@@ -10,7 +9,7 @@ pub mod Fitting
 pub mod Seeing
 pub mod Taking
 pub mod Moving
-pub mod Missing
 pub mod Baring
 pub mod Framing
 pub mod Cutting
+pub mod Leaving

@@ -1,8 +1,9 @@
 -- What a tile sees of edges.
 use Rattle.std.proofs.Common.{ℕ, ◌≡◌, ◌+◌, ◌-◌, ◌<◌, ◌≤◌, min, max, Bool, true, false, ◌&&◌, None, refl, sym, ap, ap₂, ◌∙◌, ⊎_elim, ◌⊎◌, inl, inr, arith}
 use Rattle.std.proofs.lemmas.Bool.{cases_lt}
-use Rattle.ev_cmds.specs.Edges.{has_pixel_at, meet, IsPatchOn, IsPartOn}
-use Rattle.ev_cmds.specs.declared.edges.Edges.{Edges}
+use Rattle.ev_areas.specs.Edges.{has_pixel_at, meet}
+use Rattle.ev_cmds.specs.Parts.{IsPatchOn, IsPartOn}
+use Rattle.ev_areas.specs.declared.edges.Edges.{Edges}
 use Rattle.ev_cmds.specs.declared.patch.Patch.{Patch}
 use Rattle.ev_cmds.specs.Patches.{lies}
 use Rattle.ev_cmds.proofs.Placing.{lies_in, lies_before, lies_after}

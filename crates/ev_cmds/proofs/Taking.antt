@@ -6,13 +6,14 @@ use Rattle.ev_geom.specs.Area.{holds}
 use Rattle.ev_geom.specs.Tiles.{tiles_along}
 use Rattle.ev_model.specs.Look.{Look, look_of}
 use Rattle.ev_model.specs.declared.scene.Record.{Record}
-use Rattle.ev_cmds.specs.Edges.{has_pixel_at, IsPatchOn, IsPartOn}
+use Rattle.ev_areas.specs.Edges.{has_pixel_at}
+use Rattle.ev_cmds.specs.Parts.{IsPatchOn, IsPartOn}
 use Rattle.ev_cmds.specs.Jobs.{IsPlaced, IsTileOf, IsTaken, TakesIn, Clips}
 use Rattle.ev_cmds.specs.Masks.{has_bit}
 use Rattle.ev_cmds.specs.Opaque.{replaces}
 use Rattle.ev_cmds.specs.Patches.{lies, has_place, one}
 use Rattle.ev_cmds.specs.Sheets.{Shows, Sees, IsPaintable, LiesInArea, StillShows, StillFit}
-use Rattle.ev_cmds.specs.declared.edges.Edges.{Edges}
+use Rattle.ev_areas.specs.declared.edges.Edges.{Edges}
 use Rattle.ev_cmds.specs.declared.patch.Patch.{Patch}
 use Rattle.ev_cmds.specs.declared.sheet.Sheet.{Sheet}
 use Rattle.ev_cmds.specs.declared.tile.TileCommands.{TileCommands}

@@ -1,9 +1,11 @@
 -- What is painted on all tiles of a frame.
-use Rattle.std.specs.Prelude.{◌≡◌, ℕ, ◌+◌, ◌*◌, ◌/◌, ◌%◌, ◌<◌, ◌≤◌, ℤ, pos, Bool, true, List, length, get_or, All}
+use Rattle.std.specs.Prelude.{◌≡◌, ℕ, ◌+◌, ◌*◌, ◌/◌, ◌%◌, ◌<◌, ◌≤◌, ℤ, pos, Bool, true, false, List, length, get_or, All}
 use Rattle.ev_argb.specs.Argb.{clear}
 use Rattle.ev_argb.specs.Grid.{side_of}
+use Rattle.ev_geom.specs.Area.{holds}
 use Rattle.ev_geom.specs.Tiles.{tiles_along, jobs_of}
 use Rattle.ev_model.specs.Capture.{Capture}
+use Rattle.ev_model.specs.Look.{Look}
 use Rattle.ev_model.specs.Paint.{paint}
 use Rattle.ev_cmds.specs.Jobs.{IsPlaced, tiles_of}
 use Rattle.ev_cmds.specs.Masks.{count_of}
@@ -45,3 +47,7 @@ PaintsAll work capture cut = (k : ℕ) (d : TileCommands) (x y : ℕ) → k < le
     work (pos ((get_or cut.jobs k d).left + x)) (pos ((get_or cut.jobs k d).top + y)) ≡ true →
     put_all (get_or cut.jobs k d).sheet.commands.items (get_or cut.jobs k d).left (get_or cut.jobs k d).top x y clear
     ≡ paint capture ((get_or cut.jobs k d).left + x) ((get_or cut.jobs k d).top + y)
+
+-- Looks that don't come near a work region have no pixel in it.
+abbrev pub Misses : (ℤ → ℤ → Bool) → (Look → Bool) → Type 0
+Misses work comes_near = (l : Look) (x y : ℕ) → comes_near l ≡ false → work (pos x) (pos y) ≡ true → holds l.area (pos x) (pos y) ≡ false

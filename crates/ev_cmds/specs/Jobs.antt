@@ -8,11 +8,12 @@ use Rattle.ev_region.specs.Count.{LiesWithin}
 use Rattle.ev_model.specs.Capture.{IsLookOn}
 use Rattle.ev_model.specs.Look.{Look, look_of}
 use Rattle.ev_model.specs.declared.scene.Record.{Record}
-use Rattle.ev_cmds.specs.Edges.{has_pixel_at, any_has}
+use Rattle.ev_areas.specs.Edges.{has_pixel_at}
+use Rattle.ev_cmds.specs.Parts.{any_has}
 use Rattle.ev_cmds.specs.Masks.{has_bit}
 use Rattle.ev_cmds.specs.Patches.{lies}
 use Rattle.ev_cmds.specs.Sheets.{Shows, Fits, IsPaintable}
-use Rattle.ev_cmds.specs.declared.edges.Edges.{Edges}
+use Rattle.ev_areas.specs.declared.edges.Edges.{Edges}
 use Rattle.ev_cmds.specs.declared.table.Table.{Table}
 use Rattle.ev_cmds.specs.declared.tile.TileCommands.{TileCommands}
 

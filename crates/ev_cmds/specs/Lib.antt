@@ -1,7 +1,7 @@
 pub mod Opaque
 pub mod Patches
 pub mod Masks
-pub mod Edges
+pub mod Parts
 pub mod Sheets
 pub mod Jobs
 pub mod Frames

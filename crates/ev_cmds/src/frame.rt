@@ -8,10 +8,10 @@ ghost use Rattle.ev_model.specs.Look.{look_of};
 ghost use Rattle.ev_cmds.specs.Frames as frames;
 ghost use Rattle.ev_cmds.specs.Jobs.{IsTableOf, tiles_of};
 
-use crate::edges::Edges;
-use crate::opening::{bare_part, bounds_of, edges_of, keep_near};
+use crate::opening::{bare_part, edges_of, keep_near};
 use crate::table::{Table, tiles_along};
 use crate::{Mask, NoMemory, Patch, Sheet, TileCommands};
+use ev_areas::{Edges, around};
 use ev_argb::PLANE_SIDE;
 use ev_model::Record;
 use ev_region::Region;
@@ -33,7 +33,7 @@ impl Frame {
         ensures { IfOk result (frames.IsOpened (has_pixel work.now) w h) }
     {
         let edges = edges_of(alloc, work, w, h)?;
-        let mut frame = Frame::closed(alloc, bounds_of(&edges), w, h)?;
+        let mut frame = Frame::closed(alloc, around(work.rects(), w, h), w, h)?;
         let mut near = Vec::new(alloc);
         for row in 0..tiles_along(h) {
             keep_near(&edges, row * PLANE_SIDE, &mut near)?;
@@ -78,6 +78,9 @@ impl Frame {
         requires row { row < tiles_along self.old.table.h }
         ensures { OnOk result (frames.OpensRow near.now row self.old self.new) }
     {
+        if near.is_empty() {
+            return Ok(());
+        }
         for column in 0..self.table.columns {
             self.open_tile(alloc, near, row, column)?;
         }

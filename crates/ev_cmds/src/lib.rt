@@ -2,17 +2,17 @@
 #![tactic(auto)]
 
 mod commands;
-mod edges;
 mod frame;
 mod mask;
 mod opaque;
 mod opening;
+mod part;
 mod patch;
 mod sheet;
 mod table;
 mod tile;
 
-pub use commands::{Commands, tiles_paint_captures};
+pub use commands::{Commands, tiles_paint_captures, what_misses_may_be_left_out};
 pub use mask::{Mask, Run, next_run};
 pub use opaque::opaque_area;
 pub use patch::Patch;

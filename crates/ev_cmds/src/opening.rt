@@ -1,12 +1,13 @@
 // The tiles that a work region meets, on which nothing is painted yet.
-ghost use Rattle.std.specs.Prelude.{◌≡◌, ℕ, ◌+◌, ◌*◌, ◌≤◌, ◌<◌, ℤ, pos, true, IfOk, OnOk};
+ghost use Rattle.std.specs.Prelude.{◌≡◌, ℕ, ◌+◌, ◌*◌, ◌≤◌, ◌<◌, ℤ, pos, IfOk, OnOk};
 ghost use Rattle.ev_geom.specs.Bands.{has_pixel};
 ghost use Rattle.ev_region.specs.Count.{LiesWithin};
-ghost use Rattle.ev_cmds.specs.Edges as edges;
 ghost use Rattle.ev_cmds.specs.Jobs as jobs;
+ghost use Rattle.ev_cmds.specs.Parts as parts;
 
-use crate::edges::Edges;
+use crate::part::{meets_rows, part_on};
 use crate::{Mask, NoMemory};
+use ev_areas::Edges;
 use ev_region::Region;
 use std::alloc::Global;
 
@@ -15,7 +16,7 @@ pub(crate) fn edges_of(alloc: Global, work: &Region, w: u32, h: u32) -> Result<V
     requires width { w ≤ 4096 }
     requires height { h ≤ 4096 }
     requires work { LiesWithin w h (has_pixel work.now) }
-    ensures { IfOk result (λ found. (x y : ℕ) → edges.any_has found.items x y ≡ has_pixel work.now (pos x) (pos y)) }
+    ensures { IfOk result (λ found. (x y : ℕ) → parts.any_has found.items x y ≡ has_pixel work.now (pos x) (pos y)) }
 {
     let mut found = Vec::with_capacity(alloc, work.rects().len())?;
     for rect in work.rects() {
@@ -31,7 +32,7 @@ pub(crate) fn keep_near(all: &[Edges], top: u32, near: &mut Vec<Edges>) -> Resul
 {
     near.clear();
     for one in all {
-        if one.meets_rows(top) {
+        if meets_rows(one, top) {
             near.push(*one)?;
         }
     }
@@ -40,14 +41,14 @@ pub(crate) fn keep_near(all: &[Edges], top: u32, near: &mut Vec<Edges>) -> Resul
 
 // The places of the tile at this place that lie between edges, if there are any.
 pub(crate) fn bare_part(near: &[Edges], left: u32, top: u32) -> Option<Mask>
-    ensures { jobs.IsBare (edges.any_has near.now) left top result }
+    ensures { jobs.IsBare (parts.any_has near.now) left top result }
 {
     if !is_met(near, left, top) {
         return None;
     }
     let mut bare = Mask::new();
     for one in near {
-        match one.part_on(left, top) {
+        match part_on(one, left, top) {
             Some(patch) => bare.add(patch),
             None => {}
         }
@@ -57,23 +58,12 @@ pub(crate) fn bare_part(near: &[Edges], left: u32, top: u32) -> Option<Mask>
 
 // Whether the tile at this place has a pixel between edges.
 fn is_met(near: &[Edges], left: u32, top: u32) -> bool
-    ensures { jobs.IsMet (edges.any_has near.now) left top result }
+    ensures { jobs.IsMet (parts.any_has near.now) left top result }
 {
     for one in near {
-        if one.part_on(left, top).is_some() {
+        if part_on(one, left, top).is_some() {
             return true;
         }
     }
     false
-}
-
-// Edges between which all of these lie.
-pub(crate) fn bounds_of(all: &[Edges]) -> Edges
-    ensures { (x y : ℕ) → edges.any_has all.now x y ≡ true → edges.has_pixel_at result x y ≡ true }
-{
-    let mut bounds = Edges::NONE;
-    for one in all {
-        bounds = bounds.join(one);
-    }
-    bounds
 }

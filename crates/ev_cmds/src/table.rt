@@ -5,9 +5,9 @@ ghost use Rattle.ev_model.specs.Capture.{IsLookOn};
 ghost use Rattle.ev_model.specs.Look.{look_of};
 ghost use Rattle.ev_cmds.specs.Jobs as drawn;
 
-use crate::edges::Edges;
 use crate::opaque::is_paintable;
 use crate::{NoMemory, Patch, TileCommands};
+use ev_areas::Edges;
 use ev_argb::PLANE_SIDE;
 use ev_model::Record;
 
@@ -23,8 +23,7 @@ pub(crate) struct Table {
 }
 
 impl Table {
-    // Takes in a record that lies below all that were taken in before. One whose area misses the work
-    // region is left at once.
+    // Takes in a record that lies below all that were taken in before.
     pub(crate) fn take(
         &self,
         one: &Record,
@@ -36,9 +35,6 @@ impl Table {
         ensures { OnOk result (drawn.TakesAll self.now one.now jobs.old jobs.new) }
     {
         is_paintable(one, self.w, self.h);
-        if self.bounds.misses(&one.area) {
-            return Ok(());
-        }
         let seen = Edges::of(&one.area, self.w, self.h).meet(&self.bounds);
         for row in seen.top / PLANE_SIDE..tiles_along(seen.bottom) {
             self.take_row(one, &seen, row, jobs, spare)?;

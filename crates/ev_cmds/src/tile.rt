@@ -2,8 +2,9 @@
 ghost use Rattle.std.specs.Prelude.{◌≡◌, OnOk};
 ghost use Rattle.ev_cmds.specs.Jobs as jobs;
 
-use crate::edges::Edges;
+use crate::part::part_on;
 use crate::{NoMemory, Patch, Sheet};
+use ev_areas::Edges;
 use ev_model::Record;
 
 /// What is painted on the tile of this number, whose top left is the pixel in column `left` of row
@@ -27,7 +28,7 @@ impl TileCommands {
     ) -> Result<(), NoMemory>
         ensures { OnOk result (jobs.TakesIn one.now seen.now self.old self.new) }
     {
-        match seen.part_on(self.left, self.top) {
+        match part_on(seen, self.left, self.top) {
             Some(area) => self.sheet.take(one, area, spare),
             None => Ok(()),
         }

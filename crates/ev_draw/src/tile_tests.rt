@@ -117,7 +117,8 @@ fn drawn(alloc: Global, records: &[Record; 2], work: &Region) -> Result<Plane, F
     requires work { LiesWithin 4 4 (has_pixel work.now) }
     ensures { IfOk result IsSmallPlane }
 {
-    let commands = Commands::build(alloc, records, work, 4, 4)?;
+    let [lower, upper] = records;
+    let commands = Commands::build(alloc, &[lower, upper], work, 4, 4)?;
     if commands.tiles() != 1 {
         return Err("tiles".into());
     }

@@ -1,5 +1,5 @@
 use Rattle.std.proofs.Common.{take}
-use Rattle.ev_cmds.specs.Edges.{any_has}
+use Rattle.ev_cmds.specs.Parts.{any_has}
 use Rattle.ev_cmds.specs.Jobs.{HasNone}
 use Rattle.ev_cmds.proofs.opening.is_met.Given as goal
 

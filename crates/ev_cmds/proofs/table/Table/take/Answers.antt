@@ -1,6 +1,5 @@
-use Rattle.std.proofs.Common.{◌/◌, arith, rules}
+use Rattle.std.proofs.Common.{◌/◌, arith}
 use Rattle.ev_geom.specs.Tiles.{tiles_along}
-use Rattle.ev_cmds.proofs.Missing.{takes_missed}
 use Rattle.ev_cmds.proofs.Moving.{row_more, all_taken}
 use Rattle.ev_cmds.proofs.table.Table.take.Goals as goal
 
@@ -15,6 +14,3 @@ returns c =
     let table = c.args.self.now in
     all_taken table c.args.one.now c.of.result c.meet-seen.result c.loop-row.row c.args.jobs.now c.loop-row.jobs
     c.requires.look c.is_paintable.ensures c.of.ensures c.meet-seen.ensures (omega (arith, c.tiles_along-row-end.ensures)) c.loop-row.invariant
-
-pub returns-then-misses : goal.returns-then-misses
-returns-then-misses c = takes_missed c.args.self.now c.args.one.now c.args.jobs.now c.requires.look c.is_paintable.ensures (search rules)
