@@ -7,7 +7,7 @@ use Rattle.std.proofs.lemmas.Bool.{cases_lt, cases_eq}
 use Rattle.std.proofs.lemmas.List.{get_or-set_same, get_or-set_other, get_or-replicate}
 use Rattle.std.proofs.lemmas.Nat.{pow_pos, pow_below, one_shl}
 use Rattle.std.proofs.lemmas.Nat.Bits.{bit_at_and, bit_at_or, bit_at_not, bit_at-lt, bit_at-zero, bit_at_mask_inside, bit_at_mask_below, bit_at_mask_above}
-use Rattle.ev_cmds.specs.Masks.{is_set, has_bit, Adds, Cuts}
+use Rattle.ev_cmds.specs.Masks.{is_set, has_bit, IsEmpty, Adds, Cuts}
 use Rattle.ev_cmds.specs.Patches.{has_place}
 use Rattle.ev_cmds.specs.declared.patch.Patch.{Patch}
 use Rattle.ev_cmds.specs.Patches.{lies}
@@ -139,3 +139,6 @@ cuts_row p old rows y len right order within before = record { places = λ x j w
 -- the set without places
 pub none_set : (x y : ℕ) → y < 64 → has_bit (replicate 64 0) x y ≡ false
 none_set x y within = ap (λ (n : ℕ). is_set n x) (get_or-replicate 64 y 0 0 within) ∙ ap (λ (n : ℕ). n == 1) (bit_at-zero x)
+
+pub none_zero : (rows : List ℕ) → ((y : ℕ) → y < 64 → slice_index rows y ≡ 0) → IsEmpty rows
+none_zero rows zeros = record { none = λ x y within. ap (λ (n : ℕ). is_set n x) (zeros y within) ∙ ap (λ (n : ℕ). n == 1) (bit_at-zero x) }

@@ -8,7 +8,7 @@ use Rattle.std.proofs.lemmas.Bool.{cases_lt, lt-ltb, le-ltb, le-leb, lt-leb}
 use Rattle.std.proofs.lemmas.List.Elements.{All-push}
 use Rattle.std.proofs.lemmas.Nat.{pow_below, pow-add, shr_below}
 use Rattle.std.proofs.lemmas.Nat.Bits.{bit_at-zero, bit_at_above, bit_at_ones, bit_at-trailing_zeros, bit_at-trailing_ones}
-use Rattle.ev_cmds.specs.Masks.{is_set, has_bit, IsRun, IsNextRun, in_runs, AddsRuns, AddsParts}
+use Rattle.ev_cmds.specs.Masks.{is_set, has_bit, IsEmpty, IsRun, IsNextRun, in_runs, AddsRuns, AddsParts}
 use Rattle.ev_cmds.specs.Patches.{has_place, one, times, IsPatch}
 use Rattle.ev_cmds.specs.declared.patch.Patch.{Patch}
 use Rattle.ev_cmds.specs.declared.mask.Run.{Run}
@@ -187,6 +187,17 @@ no_parts rows area old = record {
     none true true false n e = omega arith
     none true false c n e = omega arith
     none false b c n e = omega arith
+
+-- a set without places adds nothing
+pub spent_parts : (rows : List ℕ) (area : Patch) (old : List Patch) → IsEmpty rows → AddsParts rows area old old
+spent_parts rows area old empty = record {
+  patches = λ all. all;
+  places = λ x y wide tall. none (times old x y) (has_bit rows x y) (has_place area x y) (empty.none x y tall);
+}
+  where
+    none : (n : ℕ) (a b : Bool) → a ≡ false → n ≡ n + one (a && b)
+    none n false b e = omega arith
+    none n true b e = absurd cc
 
 none_in : (word top bottom x y : ℕ) → lies top bottom y ≡ false → one (in_runs word top bottom 64 x y) ≡ 0
 none_in word top bottom x y e = ap (λ (b : Bool). one (is_set word x && nat_lt x 64 && b)) e ∙ ap one (and_false (is_set word x && nat_lt x 64))

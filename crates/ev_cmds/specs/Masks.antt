@@ -1,5 +1,5 @@
 -- Sets of places of a tile, as words whose bits tell of a row's places.
-use Rattle.std.specs.Prelude.{◌≡◌, ℕ, ◌+◌, ◌<◌, ◌≤◌, Bool, true, false, not, ◌&&◌, ◌||◌, ◌==◌, nat_le, nat_lt, List, All, Option, Some, None, slice_index}
+use Rattle.std.specs.Prelude.{◌≡◌, ℕ, ◌+◌, ◌<◌, ◌≤◌, Bool, true, false, not, ◌&&◌, ◌||◌, ◌==◌, nat_le, nat_lt, List, All, Option, Some, None, length, slice_index}
 use Rattle.std.specs.Int.{bit_at}
 use Rattle.ev_region.specs.Count.{sum_below}
 use Rattle.ev_cmds.specs.Patches.{has_place, one, times, IsPatch}
@@ -21,6 +21,11 @@ count_of rows = sum_below 64 (λ y. sum_below 64 (λ x. one (has_bit rows x y)))
 -- no place is in the set
 pub record IsEmpty (rows : List ℕ) : Type 0 where
   pub none : (x y : ℕ) → y < 64 → has_bit rows x y ≡ false
+
+-- 64 rows, and if the set is known to be spent it has no place
+pub record IsMask (rows : List ℕ) (is_spent : Bool) : Type 0 where
+  pub count : length rows ≡ 64
+  pub spent : is_spent ≡ true → IsEmpty rows
 
 -- the new set has the places of a patch as well
 pub record Adds (patch : Patch) (old new : List ℕ) : Type 0 where

@@ -1,5 +1,5 @@
 // Sets of places of a tile.
-ghost use Rattle.std.specs.Prelude.{◌≡◌, ℕ, ◌<◌, ◌≤◌, ◌-◌, ◌^◌, OnOk, slice_index, bit_and};
+ghost use Rattle.std.specs.Prelude.{◌≡◌, ℕ, ◌<◌, ◌≤◌, ◌-◌, ◌^◌, true, OnOk, slice_index, bit_and};
 ghost use Rattle.ev_cmds.specs.Masks as masks;
 ghost use Rattle.ev_cmds.specs.Patches as patches;
 
@@ -11,16 +11,19 @@ use std::marker::Model;
 #[derive(Drop)]
 pub struct Mask {
     rows: [u64; 64],
+    // Set where it is known that the set has no place left, so that nothing is looked up any more.
+    is_spent: bool,
 }
 
 impl Model for Mask {
-    ghost use Rattle.std.specs.Prelude.{◌≡◌, ℕ, List, length};
+    ghost use Rattle.std.specs.Prelude.{ℕ, List};
+    ghost use Rattle.ev_cmds.specs.Masks.{IsMask};
 
     ghost Value = { List ℕ };
 
     ghost view = { λ m. m.rows };
 
-    ghost invariant = { λ m. length m.rows ≡ 64 };
+    ghost invariant = { λ m. IsMask m.rows m.is_spent };
 }
 
 /// Places side by side in a row: the columns from `left` to before `right`.
@@ -36,7 +39,10 @@ impl Mask {
     pub(crate) fn new() -> Mask
         ensures { masks.IsEmpty result }
     {
-        Mask { rows: [0; 64] }
+        Mask {
+            rows: [0; 64],
+            is_spent: false,
+        }
     }
 
     /// The places of row y: bit x tells of column x.
@@ -53,6 +59,7 @@ impl Mask {
         ensures { masks.Adds patch self.old self.new }
     {
         let columns = columns(patch.left, patch.right);
+        self.is_spent = false;
         for y in patch.top..patch.bottom {
             self.rows[y as usize] |= columns;
         }
@@ -67,6 +74,7 @@ impl Mask {
         for y in patch.top..patch.bottom {
             self.rows[y as usize] &= others;
         }
+        self.is_spent = are_empty(&self.rows);
     }
 
     // Adds patches that hold the places of the set in an area, each of them once.
@@ -74,6 +82,9 @@ impl Mask {
         requires { patches.IsPatch area }
         ensures { OnOk result (masks.AddsParts self.now area into.old.items into.new.items) }
     {
+        if self.is_spent {
+            return Ok(());
+        }
         let columns = columns(area.left, area.right);
         let mut top = area.top;
         while top < area.bottom {
@@ -101,6 +112,18 @@ impl Mask {
         }
         bottom
     }
+}
+
+// Whether no row has a place.
+fn are_empty(rows: &[u64; 64]) -> bool
+    ensures { result ≡ true → masks.IsEmpty rows.now }
+{
+    for y in 0..64 {
+        if rows[y] != 0 {
+            return false;
+        }
+    }
+    true
 }
 
 // The bits of the columns from `left` to before `right`.

@@ -9,6 +9,7 @@ loop-y-preserved c =
     let rows = c.loop-y.self-inside.rows in
     let y = c.loop-y.y in (
       length-set rows y (bit_or (slice_index rows y) c.columns-columns.result) ∙ c.loop-y.invariant.0,
+      c.loop-y.invariant.1,
       subst (λ (columns : ℕ). Adds (down_to c.args.patch (y + 1)) c.self.inside.rows (slice_set rows y (bit_or (slice_index rows y) columns))) (sym c.columns-columns.ensures)
-          (adds_row c.args.patch c.self.inside.rows rows y c.loop-y.invariant.0 (omega arith) (omega arith) c.loop-y.invariant.1),
+          (adds_row c.args.patch c.self.inside.rows rows y c.loop-y.invariant.0 (omega arith) (omega arith) c.loop-y.invariant.2),
     )
