@@ -1,0 +1,7 @@
+pub mod Places
+pub mod Planes
+pub mod Jobs
+pub mod Contents
+pub mod Beginning
+pub mod Closing
+pub mod Standing
