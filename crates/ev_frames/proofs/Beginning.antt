@@ -190,6 +190,7 @@ running cut lent loan k jobs n is z =
       drawn = tt;
       out = now.out;
       count = omega (arith, now.on_jobs);
+      costs = λ work capture of. omega (arith, now.on_jobs);
     }
 
 pub keeps_all : (cut : Cut) (lent loan : Lent) (k : ℕ) (jobs : List Job) (n : ℕ) (paint : ℕ → ℕ → Argb) (hidden : ℤ → ℤ → Bool) → IsTaking cut lent k loan jobs n → Lends paint hidden cut lent

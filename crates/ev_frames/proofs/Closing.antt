@@ -1,16 +1,17 @@
 -- A frame's planes, put back one after another from the last job to the first.
 use Rattle.std.proofs.Common.{ℕ, suc, ◌≡◌, ◌+◌, ◌*◌, ◌<◌, ◌≤◌, Bool, true, false, ◌||◌, List, [], ◌∷◌, ◌++◌, length, slice_index, sum_by, All, Option, Some, None, ℤ, ◌⊎◌, inl, inr, refl, sym, ap, ◌∙◌, subst, arith, length-append, eqb}
 use Rattle.std.proofs.lemmas.List.{length-set}
-use Rattle.std.proofs.lemmas.List.Sums.{sum_by_push}
+use Rattle.std.proofs.lemmas.List.Sums.{sum_by_push, sum_by-take-le}
 use Rattle.std.proofs.lemmas.Bool.Decides.{eqb_tells}
 use Rattle.ev_argb.specs.Argb.{Argb}
 use Rattle.ev_argb.specs.Tile.{Tile}
 use Rattle.ev_argb.specs.Grid.{IsWhole, HasSizeOf, across, plane_of, with_plane, painted_of}
-use Rattle.ev_cmds.specs.Cuts.{most_painted}
+use Rattle.ev_cmds.specs.Cuts.{IsCutOf, most_painted}
 use Rattle.ev_cmds.specs.Jobs.{tiles_of}
+use Rattle.ev_model.specs.Capture.{Capture}
 use Rattle.ev_buffers.specs.Chain.{Lent}
 use Rattle.ev_buffers.specs.Kept.{ShowsDone, TileShows, KeepsByPutting}
-use Rattle.ev_frames.specs.Running.{Running, AreFor, AreOut, AreRising, EachFrom, IsRunning, IsShownAt, IsSizedAt, Keeps, Returns, painted_on}
+use Rattle.ev_frames.specs.Running.{Running, AreFor, AreOut, AreRising, EachFrom, IsRunning, IsShownAt, IsSizedAt, Keeps, Returns, frame_cost, painted_on, tile_cost, tiles_cost}
 use Rattle.ev_frames.proofs.Planes.{put_back, whole}
 use Rattle.ev_frames.proofs.Jobs.{each_front, each_last}
 
@@ -37,6 +38,7 @@ pub record IsReturning (frame : Running) (loan : Lent) (done : List Tile) (n : �
   pub out : AreOut 0 (length done) loan.tiles loan.picture
   pub painted : painted_of loan.picture ≡ painted_of frame.loan.picture + n
   pub count : n + painted_on done ≤ frame.lent + 4096 * most_painted
+  pub costs : (work : ℤ → ℤ → Bool) (capture : Capture) → IsCutOf work capture frame.cut → n + painted_on done ≤ frame.lent + frame_cost work capture
   pub shown : (paint : ℕ → ℕ → Argb) (hidden : ℤ → ℤ → Bool) → Keeps paint hidden frame → Shown paint hidden frame loan done
 
 pub begins : (frame : Running) → IsRunning frame → frame.jobs ≡ [] → IsReturning frame frame.loan frame.done 0
@@ -55,6 +57,11 @@ begins frame is none =
       out = subst (λ (n : ℕ). AreOut 0 n frame.loan.tiles frame.loan.picture) (sym all) is.out;
       painted = omega arith;
       count = omega (arith, is.count, is.few, all);
+      costs = λ work capture of.
+          let was = is.costs work capture of in
+          let most = sum_by-take-le (tile_cost work capture) frame.loan.tiles (length frame.done) in
+          let all : tiles_cost work capture frame.loan.tiles ≡ frame_cost work capture = ap (tiles_cost work capture) (sym is.tiles ∙ of.tiles) in
+          omega (arith, was, most, all);
       shown = λ paint hidden keeps. record {
         work = keeps.work;
         draws = keeps.draws;
@@ -161,6 +168,7 @@ returns frame loan loan' done rest plane k n n' is e m l p c keeps =
       out = subst (λ (j : ℕ). AreOut 0 j loan'.tiles loan'.picture) m (subst (λ (q : Lent). AreOut 0 k q.tiles q.picture) (sym l) out);
       painted = omega (arith, p, c, is.painted);
       count = omega (arith, is.count, sum, c);
+      costs = λ work capture of. let was = is.costs work capture of in omega (arith, was, sum, c);
       shown = λ paint hidden so. put_shown frame loan loan' done rest plane k n paint hidden is e m l keeps so;
     }
 

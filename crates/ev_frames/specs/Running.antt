@@ -1,13 +1,15 @@
 -- A frame that is drawn job by job.
-use Rattle.std.specs.Prelude.{◌≡◌, ℕ, ◌+◌, ◌*◌, ◌<◌, ◌≤◌, suc, Bool, true, false, ◌||◌, List, [], ◌∷◌, length, slice_index, sum_by, ℤ, All, Option, None}
+use Rattle.std.specs.Prelude.{◌≡◌, ℕ, ◌+◌, ◌*◌, ◌/◌, ◌%◌, ◌<◌, ◌≤◌, suc, Bool, true, false, ◌||◌, List, [], ◌∷◌, length, slice_index, sum_by, take, ℤ, All, Option, None}
 use Rattle.std.specs.List.{AllByRecursion}
 use Rattle.ev_argb.specs.Argb.{Argb}
 use Rattle.ev_argb.specs.Tile.{Tile}
 use Rattle.ev_argb.specs.Grid.{Grid, HasSizeOf, across, plane_of}
+use Rattle.ev_geom.specs.Tiles.{jobs_of, tiles_along}
 use Rattle.ev_model.specs.Capture.{Capture}
 use Rattle.ev_model.specs.Paint as model
 use Rattle.ev_cmds.specs.Cuts.{Cut, IsCutOf, most_painted}
 use Rattle.ev_cmds.specs.Jobs.{tiles_of}
+use Rattle.ev_cmds.specs.Sheets.{cost}
 use Rattle.ev_draw.specs.Jobs.{Job}
 use Rattle.ev_buffers.specs.Chain.{Lent}
 use Rattle.ev_buffers.specs.Kept.{ShowsDone, TileShows}
@@ -65,6 +67,18 @@ painted_on planes = sum_by (λ plane. plane.painted) planes
 abbrev pub painted_left : List Job → ℕ
 painted_left jobs = sum_by (λ job. job.plane.painted) jobs
 
+-- how many pixels may be painted on tile t of a capture in a work region
+abbrev pub tile_cost : (ℤ → ℤ → Bool) → Capture → ℕ → ℕ
+tile_cost work capture t = cost work capture.looks (t % tiles_along capture.w * 64) (t / tiles_along capture.w * 64)
+
+-- how many on these tiles
+abbrev pub tiles_cost : (ℤ → ℤ → Bool) → Capture → List ℕ → ℕ
+tiles_cost work capture tiles = sum_by (tile_cost work capture) tiles
+
+-- how many in a frame of the capture, which draws each tile that the work region meets
+abbrev pub frame_cost : (ℤ → ℤ → Bool) → Capture → ℕ
+frame_cost work capture = tiles_cost work capture (jobs_of work capture.w capture.h)
+
 -- Each plane that is out is in one job or was drawn, and stands there by its number. The picture has the size of the canvas.
 pub record IsRunning (frame : Running) : Type 0 where
   pub width : frame.loan.picture.w ≡ frame.cut.w
@@ -79,6 +93,8 @@ pub record IsRunning (frame : Running) : Type 0 where
   pub drawn : EachFrom (IsSizedAt frame.cut.w frame.cut.h frame.loan.tiles) 0 frame.done
   pub out : AreOut 0 (length frame.loan.tiles) frame.loan.tiles frame.loan.picture
   pub count : painted_on frame.done + painted_left frame.jobs ≤ frame.lent + length frame.done * most_painted
+  pub costs : (work : ℤ → ℤ → Bool) (capture : Capture) → IsCutOf work capture frame.cut
+      → painted_on frame.done + painted_left frame.jobs ≤ frame.lent + tiles_cost work capture (take (length frame.done) frame.loan.tiles)
 
 -- The commands draw in a work region what is painted: a capture, as the model paints it.
 pub record AreFor (paint : ℕ → ℕ → Argb) (work : ℤ → ℤ → Bool) (cut : Cut) : Type 0 where

@@ -9,7 +9,7 @@ use Rattle.ev_model.specs.Paint.{paint}
 use Rattle.ev_cmds.specs.Cuts.{Cut, IsCutOf}
 use Rattle.ev_buffers.specs.Chain.{Chain, Draft, IsPlanOf, is_lent, painted_on_all}
 use Rattle.ev_buffers.specs.Kept.{IsKept, Follows}
-use Rattle.ev_frames.specs.Running.{Running, Keeps}
+use Rattle.ev_frames.specs.Running.{Running, Keeps, frame_cost}
 
 -- the buffers, the frame that is running, and how many pixels were painted on buffers that were given up before
 pub record Stand : Type 0 where
@@ -52,6 +52,15 @@ drawn_of (Some frame) = length frame.done
 abbrev pub left_of : Option Running → ℕ
 left_of None = 0
 left_of (Some frame) = length frame.jobs
+
+-- what the jobs of the running frame share
+abbrev pub cut_of : Option Running → Option Cut
+cut_of None = None
+cut_of (Some frame) = Some frame.cut
+
+-- At its end a frame adds no more painted pixels than it may cost, by any capture that its commands were cut from.
+abbrev pub Costs : Stand → Stand → Type 0
+Costs old new = IfSome old.frame (λ frame. (work : ℤ → ℤ → Bool) (capture : Capture) → IsCutOf work capture frame.cut → painted_by new ≤ painted_by old + frame_cost work capture)
 
 -- A start of a frame of a capture, by a plan of these updates, turns what is kept to into what a full redraw of the capture
 -- paints, if that follows on what was kept to.

@@ -38,7 +38,7 @@ impl Model for Easel {
 
 impl Easel {
     ghost use Rattle.ev_frames.specs.Running.{AreOn};
-    ghost use Rattle.ev_frames.specs.Stand.{KeepsByStart, KeepsOn, drawn_of, left_of, painted_by};
+    ghost use Rattle.ev_frames.specs.Stand.{Costs, KeepsByStart, cut_of, KeepsOn, drawn_of, left_of, painted_by};
 
     /// From 1 to 3 clear pictures of w by h pixels, from 1 to 4096 each way, and no frame. NoMemory
     /// where there is no room.
@@ -114,6 +114,7 @@ impl Easel {
         requires painted { painted_by self.old < 2 ^ 63 }
         ensures lent { OnOk result (self.new.chain ≡ lent_by self.old.chain plan) }
         ensures running { OnOk result (IsSome self.new.frame) }
+        ensures commands { OnOk result (cut_of self.new.frame ≡ Some commands) }
         ensures drawn { OnOk result (drawn_of self.new.frame ≡ 0) }
         ensures left { OnOk result (left_of self.new.frame ≡ length (jobs_of (has_pixel plan.work) self.old.chain.w self.old.chain.h)) }
         ensures given_up { OnOk result (self.new.given_up ≡ self.old.given_up) }
@@ -134,6 +135,7 @@ impl Easel {
         ensures drawn { drawn_of self.new.frame ≡ drawn_of self.old.frame + result }
         ensures left { left_of self.new.frame + result ≡ left_of self.old.frame }
         ensures running { is_some self.new.frame ≡ is_some self.old.frame }
+        ensures commands { cut_of self.new.frame ≡ cut_of self.old.frame }
         ensures buffers { self.new.chain ≡ self.old.chain }
         ensures given_up { self.new.given_up ≡ self.old.given_up }
         ensures painted { painted_by self.new ≡ painted_by self.old }
@@ -184,6 +186,7 @@ impl Easel {
         ensures marks { self.new.chain.marks ≡ self.old.chain.marks }
         ensures given_up { self.new.given_up ≡ self.old.given_up }
         ensures painted { painted_by self.new ≤ painted_by self.old + 4096 * most_painted }
+        ensures costs { Costs self.old self.new }
         ensures kept { KeepsOn self.old self.new }
     {
         if let Some(frame) = self.frame.take() {

@@ -40,9 +40,10 @@ impl Model for Frame {
 impl Frame {
     ghost use Rattle.std.specs.Prelude.{ℕ, ℤ, Bool, ◌*◌, min};
     ghost use Rattle.ev_argb.specs.Argb.{Argb};
-    ghost use Rattle.ev_cmds.specs.Cuts.{most_painted};
+    ghost use Rattle.ev_cmds.specs.Cuts.{IsCutOf, most_painted};
+    ghost use Rattle.ev_model.specs.Capture.{Capture};
     ghost use Rattle.ev_cmds.specs.Jobs.{tiles_of};
-    ghost use Rattle.ev_frames.specs.Running.{AreOn, Keeps, Lends, Returns, painted_on};
+    ghost use Rattle.ev_frames.specs.Running.{AreOn, Keeps, Lends, Returns, frame_cost};
     ghost use Rattle.ev_frames.specs.Rooms.{IsRoom};
 
     /// A frame whose jobs are all left, on a picture that was lent for it. This takes no memory.
@@ -153,6 +154,7 @@ impl Frame {
         ensures whole { IsWhole result.0.picture }
         ensures painted { painted_of result.0.picture ≡ painted_of self.loan.picture + result.1 }
         ensures few { result.1 ≤ self.lent + 4096 * most_painted }
+        ensures costs { (work : ℤ → ℤ → Bool) (capture : Capture) → IsCutOf work capture self.cut → result.1 ≤ self.lent + frame_cost work capture }
         ensures kept { (paint : ℕ → ℕ → Argb) (hidden : ℤ → ℤ → Bool) → Keeps paint hidden self → Returns paint hidden self.cut result.0 }
     {
         let Frame {
