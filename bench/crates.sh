@@ -12,14 +12,16 @@ folder_for_run() {
     mkdir -p "$made/crates"
 }
 
-# Copies crates from the repository at `top` to the folder `made`.
+# Copies crates from the repository at `top` to the folder `made`, without what checks kept of them.
 copy_crates() {
-    local name
+    local name part
     : >"$made/crates.txt"
     for name in "$@"; do
         mkdir -p "$made/crates/$name"
-        rm -rf "$made/crates/$name/src" "$made/crates/$name/specs" "$made/crates/$name/proofs"
-        cp -r "$top/crates/$name/." "$made/crates/$name/"
+        for part in src specs proofs; do
+            rm -rf "$made/crates/$name/$part"
+            if [ -d "$top/crates/$name/$part" ]; then cp -r "$top/crates/$name/$part" "$made/crates/$name/"; fi
+        done
         grep "^$name:" "$top/crates.txt" >>"$made/crates.txt"
     done
 }
