@@ -1,5 +1,5 @@
 -- A frame's planes, taken one after another from the last job to the first.
-use Rattle.std.proofs.Common.{ℕ, suc, ◌≡◌, ◌+◌, ◌-◌, ◌*◌, ◌/◌, ◌%◌, ◌<◌, ◌≤◌, ◌^◌, Bool, true, false, ◌||◌, List, [], ◌∷◌, ◌++◌, length, get_or, slice_index, sum_by, All, Option, Some, None, ℤ, refl, sym, ap, ◌∙◌, subst, arith, length-append}
+use Rattle.std.proofs.Common.{ℕ, suc, ◌≡◌, ◌+◌, ◌-◌, ◌*◌, ◌/◌, ◌%◌, ◌<◌, ◌≤◌, ◌^◌, Bool, false, ◌||◌, List, [], ◌∷◌, ◌++◌, length, get_or, slice_index, All, Some, None, ℤ, refl, sym, ap, ◌∙◌, subst, arith, length-append}
 use Rattle.std.specs.List.{AllByRecursion}
 use Rattle.std.proofs.lemmas.List.{length-set}
 use Rattle.std.proofs.lemmas.List.Sums.{sum_by_push}
@@ -9,11 +9,10 @@ use Rattle.ev_argb.specs.Grid.{HasSizeOf, across, plane_of, with_plane, painted_
 use Rattle.ev_geom.specs.Tiles.{tiles_along}
 use Rattle.ev_cmds.specs.Cuts.{Cut}
 use Rattle.ev_cmds.specs.Jobs.{tiles_of}
-use Rattle.ev_cmds.specs.declared.tile.TileCommands.{TileCommands}
-use Rattle.ev_draw.specs.Jobs.{Job, IsJob, Takes}
+use Rattle.ev_draw.specs.Jobs.{Job, IsJob}
 use Rattle.ev_buffers.specs.Chain.{Lent, FitsChain}
 use Rattle.ev_buffers.specs.Kept.{ShowsDone, PlaneShows, KeepsByTaking}
-use Rattle.ev_frames.specs.Running.{Running, AreFor, AreLeft, AreOn, AreOut, AreRising, IsJobOf, IsRunning, JobShows, Keeps, Lends, painted_left}
+use Rattle.ev_frames.specs.Running.{AreFor, AreLeft, AreOn, AreOut, AreRising, IsJobOf, IsRunning, JobShows, Keeps, Lends, painted_left}
 use Rattle.ev_frames.proofs.Places.{few_jobs, jobs_rise, jobs_within}
 use Rattle.ev_frames.proofs.Planes.{none_out, is_home, taken}
 use Rattle.ev_frames.proofs.Jobs.{add_last, as_many, left_more, tile_is}

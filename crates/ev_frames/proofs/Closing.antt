@@ -1,11 +1,11 @@
 -- A frame's planes, put back one after another from the last job to the first.
-use Rattle.std.proofs.Common.{ℕ, suc, ◌≡◌, ◌+◌, ◌*◌, ◌<◌, ◌≤◌, Bool, true, false, ◌||◌, List, [], ◌∷◌, ◌++◌, length, slice_index, sum_by, All, Option, Some, None, ℤ, ◌⊎◌, inl, inr, refl, sym, ap, ◌∙◌, subst, arith, length-append, eqb}
+use Rattle.std.proofs.Common.{ℕ, suc, ◌≡◌, ◌+◌, ◌*◌, ◌<◌, ◌≤◌, Bool, true, false, ◌||◌, List, [], ◌∷◌, ◌++◌, length, slice_index, All, Some, None, ℤ, ◌⊎◌, inl, inr, refl, sym, ap, ◌∙◌, subst, arith, length-append, eqb}
 use Rattle.std.proofs.lemmas.List.{length-set}
 use Rattle.std.proofs.lemmas.List.Sums.{sum_by_push, sum_by-take-le}
 use Rattle.std.proofs.lemmas.Bool.Decides.{eqb_tells}
 use Rattle.ev_argb.specs.Argb.{Argb}
 use Rattle.ev_argb.specs.Tile.{Tile}
-use Rattle.ev_argb.specs.Grid.{IsWhole, HasSizeOf, across, plane_of, with_plane, painted_of}
+use Rattle.ev_argb.specs.Grid.{IsWhole, HasSizeOf, plane_of, with_plane, painted_of}
 use Rattle.ev_cmds.specs.Cuts.{IsCutOf, most_painted}
 use Rattle.ev_cmds.specs.Jobs.{tiles_of}
 use Rattle.ev_model.specs.Capture.{Capture}

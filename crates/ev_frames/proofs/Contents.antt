@@ -1,11 +1,11 @@
 -- What the planes of a frame show.
-use Rattle.std.proofs.Common.{ℕ, suc, ◌≡◌, ◌+◌, ◌*◌, ◌/◌, ◌%◌, ◌<◌, ◌≤◌, Bool, true, false, ◌||◌, List, [], ◌∷◌, ◌++◌, length, get_or, slice_index, sum_by, take, ℤ, pos, refl, sym, ap, ◌∙◌, subst, arith, length-append}
+use Rattle.std.proofs.Common.{ℕ, suc, ◌≡◌, ◌+◌, ◌*◌, ◌/◌, ◌%◌, ◌<◌, ◌≤◌, Bool, true, false, ◌||◌, List, [], ◌∷◌, ◌++◌, length, get_or, slice_index, take, ℤ, pos, refl, sym, ap, ◌∙◌, subst, arith, length-append}
 use Rattle.std.specs.List.{AllByRecursion}
 use Rattle.std.proofs.lemmas.Nat.{mod-mul-add, div-mul-add}
 use Rattle.std.proofs.lemmas.List.Sums.{sum_by_more, sum_by_push}
 use Rattle.ev_argb.specs.Argb.{Argb, clear}
 use Rattle.ev_argb.specs.Tile.{Tile, tile_at}
-use Rattle.ev_argb.specs.Grid.{HasSizeOf, across, tile_of}
+use Rattle.ev_argb.specs.Grid.{HasSizeOf, across}
 use Rattle.ev_model.specs.Capture.{Capture}
 use Rattle.ev_model.specs.Look.{Look}
 use Rattle.ev_cmds.specs.Cuts.{Cut, IsCutOf, most_painted}
@@ -15,8 +15,8 @@ use Rattle.ev_cmds.specs.declared.tile.TileCommands.{TileCommands}
 use Rattle.ev_draw.specs.Jobs.{Job, tile_of as commands_of}
 use Rattle.ev_draw.specs.Making.{IsDrawn, PaintsAtMost}
 use Rattle.ev_buffers.specs.Kept.{TileShows}
-use Rattle.ev_frames.specs.Running.{Running, AreFor, AreLeft, EachFrom, IsJobOf, IsRunning, IsShownAt, IsSizedAt, JobShows, Keeps, painted_left, painted_on, tile_cost, tiles_cost}
-use Rattle.ev_frames.proofs.Jobs.{add_last, as_many, each_more, next, some_of, split_last, tile_is}
+use Rattle.ev_frames.specs.Running.{Running, AreFor, AreLeft, IsJobOf, IsRunning, IsShownAt, IsSizedAt, JobShows, Keeps, painted_left, painted_on, tile_cost, tiles_cost}
+use Rattle.ev_frames.proofs.Jobs.{as_many, each_more, next, some_of, split_last, tile_is}
 
 or_so : (a b : Bool) → a ≡ false → b ≡ false → (a || b) ≡ false
 or_so a b e f = rw (e, f) refl

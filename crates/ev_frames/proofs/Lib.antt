@@ -5,3 +5,4 @@ pub mod Contents
 pub mod Beginning
 pub mod Closing
 pub mod Standing
+pub mod Costing

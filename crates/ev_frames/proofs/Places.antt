@@ -1,5 +1,5 @@
 -- The tiles of a frame's jobs: they rise, so no two are the same.
-use Rattle.std.proofs.Common.{ℕ, zero, suc, ◌≡◌, ◌≢◌, ◌+◌, ◌*◌, ◌<◌, ◌≤◌, Bool, true, false, ℤ, cond, List, [], ◌∷◌, length, filter, slice_index, All, arith}
+use Rattle.std.proofs.Common.{ℕ, zero, suc, ◌≢◌, ◌+◌, ◌*◌, ◌<◌, ◌≤◌, Bool, true, false, ℤ, cond, List, [], ◌∷◌, length, filter, slice_index, All, arith}
 use Rattle.std.specs.List.{range_with_len}
 use Rattle.std.proofs.lemmas.List.FromFn.{length-range_with_len, get_or-range_with_len}
 use Rattle.std.proofs.lemmas.List.Elements.{All-filter}

@@ -1,10 +1,10 @@
 -- Planes that are taken and put back, one by one.
-use Rattle.std.proofs.Common.{ℕ, zero, suc, ◌≡◌, ◌≢◌, ◌+◌, ◌<◌, ◌≤◌, List, [], ◌∷◌, length, get_or, slice_index, Option, Some, None, IsSome, All, ◌⊎◌, inl, inr, refl, sym, ap, ◌∙◌, subst, arith}
+use Rattle.std.proofs.Common.{ℕ, zero, suc, ◌≡◌, ◌≢◌, ◌<◌, ◌≤◌, List, [], ◌∷◌, length, get_or, slice_index, Option, Some, None, IsSome, inl, inr, refl, sym, ap, ◌∙◌, subst, arith}
 use Rattle.std.proofs.lemmas.List.{get_or-set_same, get_or-set_other, length-set}
 use Rattle.std.proofs.lemmas.Bool.Decides.{eqb_tells}
 use Rattle.ev_argb.specs.Tile.{Tile}
 use Rattle.ev_argb.specs.Grid.{Grid, IsWhole, plane_of, with_plane}
-use Rattle.ev_frames.specs.Running.{AreRising, IsAmong, AreOut}
+use Rattle.ev_frames.specs.Running.{AreRising, AreOut}
 use Rattle.ev_frames.proofs.Places.{differ}
 
 pub plane_same : (picture : Grid) (t : ℕ) (plane : Option Tile) → t < length picture.tiles → plane_of (with_plane picture t plane) t ≡ plane

@@ -1,5 +1,5 @@
 -- Buffers and their frame, at its start and at its end.
-use Rattle.std.proofs.Common.{ℕ, ◌≡◌, ◌<◌, Bool, true, false, List, length, slice_index, All, Option, Some, None, ℤ, refl, sym, ap, ◌∙◌, subst}
+use Rattle.std.proofs.Common.{ℕ, ◌≡◌, Bool, true, false, List, All, Some, None, ℤ, refl, sym, ap, ◌∙◌, subst}
 use Rattle.ev_argb.specs.Argb.{Argb}
 use Rattle.ev_geom.specs.Area.{Area}
 use Rattle.ev_geom.specs.Bands.{has_pixel}

@@ -1,5 +1,5 @@
 -- A frame that is drawn job by job.
-use Rattle.std.specs.Prelude.{◌≡◌, ℕ, ◌+◌, ◌*◌, ◌/◌, ◌%◌, ◌<◌, ◌≤◌, suc, Bool, true, false, ◌||◌, List, [], ◌∷◌, length, slice_index, sum_by, take, ℤ, All, Option, None}
+use Rattle.std.specs.Prelude.{◌≡◌, ℕ, ◌+◌, ◌*◌, ◌/◌, ◌%◌, ◌<◌, ◌≤◌, suc, Bool, true, false, ◌||◌, List, [], ◌∷◌, length, slice_index, sum_by, take, ℤ, All, None}
 use Rattle.std.specs.List.{AllByRecursion}
 use Rattle.ev_argb.specs.Argb.{Argb}
 use Rattle.ev_argb.specs.Tile.{Tile}

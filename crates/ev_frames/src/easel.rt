@@ -17,7 +17,7 @@ use std::alloc::Global;
 use std::marker::Model;
 
 /// One to three pictures of one size that are drawn in turn, and the frame that is running on one of
-/// them, if any is (docs/ARCHITECTURE.md, "Running frames").
+/// them, if any is (docs/ARCHITECTURE.md, Running frames).
 #[derive(Drop)]
 pub struct Easel {
     buffers: Buffers,
@@ -41,7 +41,7 @@ impl Easel {
     ghost use Rattle.ev_frames.specs.Stand.{Costs, KeepsByStart, cut_of, KeepsOn, drawn_of, left_of, painted_by};
 
     /// From 1 to 3 clear pictures of w by h pixels, from 1 to 4096 each way, and no frame. NoMemory
-    /// where there is no room.
+    /// where there is no room (docs/ARCHITECTURE.md, Running frames).
     pub fn create(alloc: Global, n: u32, w: u32, h: u32) -> Result<Easel, NoMemory>
         requires some { 1 ≤ n }
         requires few { n ≤ 3 }
@@ -57,7 +57,8 @@ impl Easel {
     }
 
     /// As many pictures of another size, in place of these, which they count as given up. These stay
-    /// as they are until they are let go. NoMemory where there is no room.
+    /// as they are until they are let go. NoMemory where there is no room (docs/ARCHITECTURE.md,
+    /// Running frames).
     pub fn resized(&self, alloc: Global, w: u32, h: u32) -> Result<Easel, NoMemory>
         requires width_low { 1 ≤ w }
         requires width_high { w ≤ 4096 }
@@ -95,7 +96,8 @@ impl Easel {
     }
 
     /// What a frame with these updates has to draw on the next picture: what is stale there or updated
-    /// now, but for the hidden pixels. NoMemory where there is no room for the plan.
+    /// now, but for the hidden pixels. NoMemory where there is no room for the plan
+    /// (docs/ARCHITECTURE.md, Buffers).
     pub fn plan(&self, alloc: Global, updates: &Region, hidden: &Region) -> Result<Plan, NoMemory>
         ensures made { IfOk result (IsPlanOf self.now.chain updates.now (has_pixel hidden.now)) }
         ensures repairs { IfOk result (Repairs self.now.chain updates.now (has_pixel hidden.now)) }
@@ -106,7 +108,8 @@ impl Easel {
     /// Starts a frame by a plan that was made with nothing started since, with the commands of a
     /// capture for its work region: a job for each tile that the work region meets. No frame is
     /// running, and fewer than 2^63 pixels were painted. NoMemory where there is no room for the jobs,
-    /// and then nothing changes; no later call on the frame takes memory.
+    /// and then nothing changes; no later call on the frame takes memory (docs/ARCHITECTURE.md,
+    /// Running frames).
     pub fn start(&mut self, alloc: Global, plan: Plan, commands: Commands) -> Result<(), NoMemory>
         requires idle { self.old.frame ≡ None }
         requires planned { IsPlanned self.old.chain plan }
@@ -129,7 +132,7 @@ impl Easel {
     }
 
     /// Draws up to so many of the jobs that are left, the first ones, and says how many. It takes no
-    /// memory.
+    /// memory (docs/ARCHITECTURE.md, Running frames).
     pub fn step(&mut self, most: u32) -> u32
         ensures count { result ≡ min most (left_of self.old.frame) }
         ensures drawn { drawn_of self.new.frame ≡ drawn_of self.old.frame + result }
@@ -147,7 +150,8 @@ impl Easel {
         frame.steps(most)
     }
 
-    /// How many jobs of the running frame are drawn.
+    /// How many jobs of the running frame are drawn; 0 where none is running (docs/ARCHITECTURE.md,
+    /// Running frames).
     pub fn drawn(&self) -> u32
         ensures { result ≡ drawn_of self.now.frame }
     {
@@ -157,7 +161,7 @@ impl Easel {
         }
     }
 
-    /// How many of its jobs are left.
+    /// How many of its jobs are left; 0 where none is running (docs/ARCHITECTURE.md, Running frames).
     pub fn left(&self) -> u32
         ensures { result ≡ left_of self.now.frame }
     {
@@ -168,7 +172,7 @@ impl Easel {
     }
 
     /// How many pixels were painted on these pictures, their making included, and on those that were
-    /// given up. A plane that is out counts as when it went out.
+    /// given up. A plane that is out counts as when it went out (docs/ARCHITECTURE.md, Running frames).
     pub fn painted(&self) -> u64
         ensures { result ≡ painted_by self.now }
     {
@@ -176,7 +180,7 @@ impl Easel {
     }
 
     /// Ends the running frame, whose jobs are all drawn: its picture is what `last` gives from now on.
-    /// It takes no memory.
+    /// It takes no memory (docs/ARCHITECTURE.md, Running frames).
     pub fn close(&mut self)
         requires running { IsSome self.old.frame }
         requires drawn { left_of self.old.frame ≡ 0 }
@@ -198,7 +202,7 @@ impl Easel {
     }
 
     /// The picture that was drawn last. None exactly where no frame was drawn on these pictures, or one
-    /// is running.
+    /// is running (docs/ARCHITECTURE.md, Buffers).
     pub fn last(&self) -> Option<&Picture>
         ensures drawn { MatchOption result (drawn self.now.chain ≡ None) (λ picture. drawn self.now.chain ≡ Some picture.now) }
         ensures size { IfSome result (λ picture. FitsChain self.now.chain.w self.now.chain.h picture.now) }

@@ -1,4 +1,4 @@
-use Rattle.std.proofs.Common.{◌≡◌, sym, ap, ◌∙◌, subst}
+use Rattle.std.proofs.Common.{sym, ap, ◌∙◌, subst}
 use Rattle.ev_buffers.specs.Kept.{KeepsByLending}
 use Rattle.ev_frames.specs.Running.{Lends}
 use Rattle.ev_frames.proofs.Standing.{starts}

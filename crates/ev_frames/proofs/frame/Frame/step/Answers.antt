@@ -1,6 +1,6 @@
-use Rattle.std.proofs.Common.{◌≡◌, ◌+◌, ◌++◌, ◌∷◌, [], length, arith, sym, ap, subst, length-append}
+use Rattle.std.proofs.Common.{◌∷◌, [], length, arith, sym, ap, subst, length-append}
 use Rattle.std.specs.Arc.{arc_value}
-use Rattle.ev_frames.specs.Running.{Running, IsRunning, Keeps}
+use Rattle.ev_frames.specs.Running.{IsRunning, Keeps}
 use Rattle.ev_frames.proofs.Contents.{step_keeps, step_runs, Drawn}
 use Rattle.ev_frames.proofs.frame.Frame.step.Goals as goal
 
