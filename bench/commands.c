@@ -82,24 +82,25 @@ static void take(Tile *tile, int x, int y, const Record *one, Edges seen) {
         }
     }
     if (replaces) {
-        uint64_t rest = 0;
-        for (int row = top; row < bottom; row++)
+        int row = 0;
+        for (row = top; row < bottom; row++)
             tile->open[row] &= ~wanted;
-        for (int row = 0; row < 64; row++)
-            rest |= tile->open[row];
-        tile->covered = !rest;
+        for (row = 0; row < 64 && !tile->open[row]; row++) {
+        }
+        tile->covered = row == 64;
     }
 }
 
 // The tiles of a frame.
 typedef struct { Tile *tiles; int count; int16_t places[ACROSS * DOWN]; } Cut;
 
-static void open_tiles(Cut *cut, const Edges *work, int n) {
+static void open_tiles(Cut *cut, const Edges *work, int n, Edges bounds) {
     int room = 0;
     cut->tiles = NULL;
     cut->count = 0;
     memset(cut->places, 0, sizeof cut->places);
-    for (int t = 0; t < ACROSS * DOWN; t++) {
+    int first = bounds.top / 64 * ACROSS, last = (bounds.bottom + 63) / 64 * ACROSS;
+    for (int t = first; t < last; t++) {
         int x = t % ACROSS * 64, y = t / ACROSS * 64;
         Tile *tile = NULL;
         for (int k = 0; k < n; k++) {
@@ -156,7 +157,7 @@ static int find(const uint64_t *areas, int n, Edges bounds) {
 static void build(Cut *cut, const Record *records, const uint64_t *areas, int n, const Edges *work, int parts) {
     Edges bounds = around(work, parts);
     int count = find(areas, n, bounds);
-    open_tiles(cut, work, parts);
+    open_tiles(cut, work, parts, bounds);
     while (count) {
         const Record *one = &records[found[--count]];
         Edges seen = {
