@@ -1,0 +1,3 @@
+pub mod Places
+mod Writing
+mod Keeping

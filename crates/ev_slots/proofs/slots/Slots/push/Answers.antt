@@ -1,0 +1,16 @@
+use Rattle.std.proofs.Common.{nat_eq, Some, [], ◌∷◌, ◌++◌, ◌<◌, sym, ap, subst, ◌∙◌}
+use Rattle.std.specs.HashMap.{get}
+use Rattle.slab.specs.Slab.{get as entry, slab_len}
+use Rattle.ev_slots.proofs.Keeping.{pushed, list_pushed, room_left}
+use Rattle.ev_slots.proofs.slots.Slots.push.Goals as goal
+
+pub invariant_of-self : goal.invariant_of-self
+invariant_of-self g c =
+    let few = room_left c.self.inside.given _ (subst (λ n. 0 < n) (sym (ap (λ s. s.room) c.self.view_is)) c.requires) in
+    pushed c.self.inside.given (get nat_eq c.self.inside.places) (entry c.self.inside.entries) (slab_len c.self.inside.entries) c.self.invariant few c.args.thing (get nat_eq c.enter-place.new.places) (entry c.enter-place.new.entries) (slab_len c.enter-place.new.entries) c.enter-place.ensures
+
+pub returns : goal.returns
+returns g c =
+    let few = room_left c.self.inside.given _ (subst (λ n. 0 < n) (sym (ap (λ s. s.room) c.self.view_is)) c.requires) in
+    list_pushed c.self.inside.given (get nat_eq c.self.inside.places) (entry c.self.inside.entries) (slab_len c.self.inside.entries) c.self.invariant few c.args.thing (get nat_eq c.enter-place.new.places) (entry c.enter-place.new.entries) (slab_len c.enter-place.new.entries) c.enter-place.ensures
+    ∙ ap (λ s. s.slots ++ Some c.args.thing ∷ []) c.self.view_is
