@@ -3,12 +3,7 @@ use Rattle.std.specs.Prelude.{ℕ, ℤ, List, Option, Result}
 use Rattle.std.specs.Borrow.{LendsIfOk, MutBor, Fml}
 use Rattle.ev_stack.specs.contracts.siblings.Siblings as siblings
 use Rattle.ev_groups.specs.Groups.{with_group}
-use Rattle.ev_groups.specs.contracts.slot.Slot as slot
 use Rattle.ev_groups.specs.contracts.groups.Groups as groups
-
--- a slot ends with the last siblings written through the answer; after a refusal it is as before
-abbrev pub LendsSlot : MutBor (List (ℕ × ℤ)) → {E : Type 0} → Result (MutBor (List (ℕ × ℤ))) E → Fml
-LendsSlot s result = LendsIfOk slot.the_row siblings.the_row s result (λ list. list) s.now
 
 -- groups end with the last siblings written through the answer in this parent; after a refusal they are as before
 abbrev pub LendsGroup : MutBor (List (List (ℕ × ℤ))) → Option ℕ → {E : Type 0} → Result (MutBor (List (ℕ × ℤ))) E → Fml

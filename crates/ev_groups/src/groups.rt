@@ -1,39 +1,41 @@
 // All groups of siblings.
-ghost use Rattle.std.specs.Prelude.{◌≡◌, ◌≢◌, ◌<◌, ◌++◌, ◌∷◌, [], length, None, Some, IfSome, IfOk, OnOk, OnErr};
+ghost use Rattle.std.specs.Prelude.{◌≡◌, ◌≢◌, ◌<◌, ◌≤◌, ◌++◌, ◌∷◌, [], length, map, true, None, Some, is_some, IfSome, IfOk, OnOk, OnErr};
 ghost use Rattle.std.specs.Borrow.{sem};
 ghost use Rattle.ev_model.specs.Order.{in_order};
 ghost use Rattle.ev_stack.specs.Order.{layer_in, put_top};
-ghost use Rattle.ev_groups.specs.Groups.{place, group, siblings, with_group};
+ghost use Rattle.ev_slots.specs.Slots.{of_id};
+ghost use Rattle.ev_groups.specs.Groups.{place, group, siblings, with_group, members_of};
 ghost use Rattle.ev_groups.specs.Lending.{LendsGroup};
 
 use crate::NoMemory;
 use crate::listed::Listed;
-use crate::slot::Slot;
+use ev_slots::{MAX_IDS, Slots};
 use ev_stack::Siblings;
 use std::alloc::Global;
 use std::marker::Model;
 
 /// The siblings of every parent, and those without one, each group from bottom to top
 /// (docs/CANVAS.md, Objects). Objects go by their ids, which are numbers from 1 in the order in which
-/// they were made. An object that never had members takes 16 bytes here.
+/// they were made. Only those that have members take memory here.
 #[derive(Drop)]
 pub struct Groups {
     alloc: Global,
     top: Siblings,
-    members: Vec<Slot>,
+    members: Slots<Siblings>,
     none: Siblings,
     listed: Option<Listed>,
 }
 
 impl Model for Groups {
-    ghost use Rattle.std.specs.Prelude.{◌≡◌, ◌∷◌, [], ℕ, ℤ, List};
+    ghost use Rattle.std.specs.Prelude.{◌≡◌, [], ℕ, ℤ, List};
+    ghost use Rattle.ev_groups.specs.Groups.{groups_of};
     ghost use Rattle.ev_groups.specs.Listed.{IsListed};
 
     ghost Value = { List (List (ℕ × ℤ)) };
 
-    ghost view = { λ groups. groups.top ∷ groups.members.items };
+    ghost view = { λ groups. groups_of groups.top groups.members.slots };
 
-    ghost invariant = { λ groups. (groups.none ≡ []) × IsListed (groups.top ∷ groups.members.items) groups.listed };
+    ghost invariant = { λ groups. (groups.none ≡ []) × IsListed (groups_of groups.top groups.members.slots) groups.listed };
 }
 
 impl Groups {
@@ -44,7 +46,7 @@ impl Groups {
         Groups {
             alloc,
             top: Siblings::new(alloc),
-            members: Vec::new(alloc),
+            members: Slots::new(alloc),
             none: Siblings::new(alloc),
             listed: None,
         }
@@ -60,10 +62,11 @@ impl Groups {
         ensures err { OnErr result (self.new ≡ self.old) }
     {
         self.listed = None;
-        self.members.reserve(1)?;
-        let id = self.members.len() as u64 + 1;
-        self.top.push_top(id, layer)?;
-        self.members.push_reserved(Slot::new());
+        if self.members.given() >= MAX_IDS {
+            return Err(NoMemory);
+        }
+        self.top.push_top(self.members.given() + 1, layer)?;
+        self.members.give();
         Ok(())
     }
 
@@ -75,8 +78,8 @@ impl Groups {
         if place == 0 {
             return &self.top;
         }
-        match self.members.get(place - 1) {
-            Some(slot) => slot.get(&self.none),
+        match self.members.get(place) {
+            Some(members) => members,
             None => &self.none,
         }
     }
@@ -95,8 +98,11 @@ impl Groups {
         if place == 0 {
             return Ok(&mut self.top);
         }
-        let slot = &mut self.members[place - 1];
-        slot.get_mut(self.alloc)
+        make(&mut self.members, self.alloc, place)?;
+        match self.members.get_mut(place) {
+            Some(members) => Ok(members),
+            None => Err(NoMemory),
+        }
     }
 
     pub(crate) fn alloc(&self) -> Global {
@@ -108,8 +114,7 @@ impl Groups {
         requires serial { id ≢ 0 }
         ensures { self.new ≡ with_group self.old (Some id) [] }
     {
-        if let Some(slot) = self.members.get_mut(id as usize - 1) {
-            *slot = Slot::new();
+        if self.members.take(id).is_some() {
             self.listed = None;
         }
     }
@@ -144,11 +149,23 @@ impl Groups {
 }
 
 // Where a group stands: 0 for the objects that stand in no object.
-fn place(parent: Option<u64>) -> usize
+fn place(parent: Option<u64>) -> u64
     ensures { result ≡ place parent }
 {
-    match parent {
-        Some(id) => id as usize,
-        None => 0,
+    parent.unwrap_or(0)
+}
+
+// Takes the memory for members of an object, where it has none.
+fn make(members: &mut Slots<Siblings>, alloc: Global, id: u64) -> Result<(), NoMemory>
+    requires low { 1 ≤ id }
+    requires high { id ≤ length members.old.slots }
+    ensures same { map members_of members.new.slots ≡ map members_of members.old.slots }
+    ensures there { OnOk result (is_some (of_id members.new.slots id) ≡ true) }
+    ensures empty { OnErr result (members_of (of_id members.old.slots id) ≡ []) }
+{
+    if members.get(id).is_none() {
+        members.reserve()?;
+        members.fill(id, Siblings::new(alloc));
     }
+    Ok(())
 }

@@ -3,7 +3,6 @@
 
 mod groups;
 mod listed;
-mod slot;
 mod walk;
 
 pub use groups::Groups;
