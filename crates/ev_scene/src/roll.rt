@@ -11,6 +11,7 @@ use crate::NoMemory;
 use crate::change::{Change, apply};
 use crate::label::Label;
 use ev_model::{Name, Object};
+use ev_slots::Slots;
 use ev_state::{Shared, Tally};
 use indexmap::IndexMap;
 use std::alloc::Global;
@@ -24,20 +25,20 @@ const MAX_STATES: u64 = 1 << 62;
 pub struct Roll {
     alloc: Global,
     tally: Tally,
-    states: Vec<Option<Shared<Object>>>,
+    slots: Slots<Shared<Object>>,
     ids: IndexMap<Label, u64>,
 }
 
 impl Model for Roll {
-    ghost use Rattle.std.specs.Prelude.{◌-◌, min, length, vec_capacity};
+    ghost use Rattle.std.specs.Prelude.{min};
     ghost use Rattle.indexmap.specs.IndexMap.{spare};
     ghost use Rattle.ev_scene.specs.Roll.{Entries, IsRoll};
 
     ghost Value = { Entries };
 
-    ghost view = { λ r. record { made = r.tally; states = r.states.items; room = min (vec_capacity r.states - length r.states.items) (spare r.ids) } };
+    ghost view = { λ r. record { made = r.tally; states = r.slots.slots; room = min r.slots.room (spare r.ids) } };
 
-    ghost invariant = { λ r. IsRoll r.states.items r.ids.entries };
+    ghost invariant = { λ r. IsRoll r.slots.slots r.ids.entries };
 }
 
 impl Roll {
@@ -49,7 +50,7 @@ impl Roll {
         Roll {
             alloc,
             tally: Tally::new(),
-            states: Vec::new(alloc),
+            slots: Slots::new(alloc),
             ids: IndexMap::new(alloc),
         }
     }
@@ -70,14 +71,14 @@ impl Roll {
     pub fn len(&self) -> usize
         ensures { result ≡ length (live (values_of self.now.states)) }
     {
-        self.ids.len()
+        self.slots.len()
     }
 
     // The id that comes next.
     pub fn next_id(&self) -> u64
         ensures { result ≡ length self.now.states + 1 }
     {
-        self.states.len() as u64 + 1
+        self.slots.given() + 1
     }
 
     // The object of a name.
@@ -105,8 +106,7 @@ impl Roll {
     pub fn state(&self, id: u64) -> Option<&Shared<Object>>
         ensures { option_copied result ≡ of_id self.now.states id }
     {
-        let place = id.checked_sub(1)?;
-        self.states.get(place as usize)?.as_ref()
+        self.slots.get(id)
     }
 
     // Makes room for one more object.
@@ -115,7 +115,7 @@ impl Roll {
         ensures made { self.new.made ≡ self.old.made }
         ensures ok { OnOk result (0 < self.new.room) }
     {
-        self.states.reserve(1)?;
+        self.slots.reserve()?;
         self.ids.reserve(1)
     }
 
@@ -145,9 +145,7 @@ impl Roll {
         let label = Label {
             name: state.get().name,
         };
-        let Ok(()) = self.states.push(Some(state)) else {
-            unreachable!()
-        };
+        self.slots.push(state);
         let Ok(_) = self.ids.insert(label, id) else {
             unreachable!()
         };
@@ -167,7 +165,7 @@ impl Roll {
         if self.tally.count() >= MAX_STATES {
             return Err(NoMemory);
         }
-        if let Some(state) = &mut self.states[id as usize - 1] {
+        if let Some(state) = self.slots.get_mut(id) {
             let object = state.edit(self.alloc, &mut self.tally)?;
             apply(change, object);
         }
@@ -181,7 +179,10 @@ impl Roll {
         ensures made { self.new.made ≡ self.old.made }
     {
         let id = state.get().id;
-        self.states[id as usize - 1] = Some(state);
+        match self.slots.get_mut(id) {
+            Some(old) => *old = state,
+            None => unreachable!(),
+        }
     }
 
     // Puts other states of some objects in place.
@@ -205,7 +206,7 @@ impl Roll {
             let Some(_) = self.ids.swap_remove(&label) else {
                 unreachable!()
             };
-            self.states[id as usize - 1] = None;
+            let _ = self.slots.take(id);
         }
     }
 }

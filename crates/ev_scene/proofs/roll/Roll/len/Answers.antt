@@ -5,4 +5,4 @@ use Rattle.ev_scene.proofs.Places.{live_map}
 use Rattle.ev_scene.proofs.roll.Roll.len.Goals as goal
 
 pub returns : goal.returns
-returns c = c.len.ensures.len ∙ c.self.invariant.size ∙ sym (live_map value_of c.self.inside.states.items) ∙ ap (λ v. length (live (values_of v.states))) c.self.view_is
+returns c = c.len.ensures ∙ sym (live_map value_of c.self.inside.slots.slots) ∙ ap (λ v. length (live (values_of v.states))) c.self.view_is
