@@ -1,0 +1,7 @@
+pub mod Lining
+pub mod Turnings
+pub mod Changing
+pub mod Settling
+pub mod Gatherings
+pub mod Ranking
+pub mod Numbering

@@ -1,0 +1,42 @@
+use Rattle.std.proofs.Common.{arith, ◌≡◌, ◌∙◌, ap, ap₂, refl, sym, ◌++◌, ◌∷◌, [], length, Some, None, ℕ, Option, true, is_some}
+use Rattle.ev_records.specs.Showing.{put}
+use Rattle.ev_records.specs.Cells.{look_in}
+use Rattle.ev_records.proofs.Changing.{there, may_stand, some_mark, none_mark, one_cell, put_again, cells_again, IsFirst, first_shown, first_cells}
+use Rattle.ev_records.proofs.records.Records.put.Goals as goal
+
+pub invariant_of-self : goal.invariant_of-self
+invariant_of-self c =
+    let low = there c.self.inside.formers.items c.self.inside.cells.items c.args.self.now c.args.place c.self.view_is c.requires.there in
+    let mark = some_mark c.index_mut.result.now.mark (ap (λ k. is_some k.mark) (one_cell c.self.inside.cells.items c.args.place c.index_mut.result.now c.index.result.now low c.index_mut.ensures.value c.index.ensures) ∙ sym c.is_some.ensures ∙ c.if-is_some.true) in
+    cells_again c.self.inside.formers.items c.self.inside.cells.items c.args.place c.index_mut.result.now _ c.args.one low c.index_mut.ensures.value refl mark.0 mark.1
+    (may_stand _ c.args.self.now c.args.place c.args.one c.self.view_is c.requires.stands) c.self.invariant
+
+pub returns-then-is_some-clause-ok : goal.returns-then-is_some-clause-ok
+returns-then-is_some-clause-ok c =
+    let low = there c.self.inside.formers.items c.self.inside.cells.items c.args.self.now c.args.place c.self.view_is c.requires.there in
+    let mark = some_mark c.index_mut.result.now.mark (ap (λ k. is_some k.mark) (one_cell c.self.inside.cells.items c.args.place c.index_mut.result.now c.index.result.now low c.index_mut.ensures.value c.index.ensures) ∙ sym c.is_some.ensures ∙ c.if-is_some.true) in
+    put_again c.self.inside.formers.items c.self.inside.cells.items c.args.place c.index_mut.result.now _ c.args.one low c.index_mut.ensures.value refl mark.0 mark.1
+    ∙ ap (λ all. put all c.args.place (look_in c.args.one)) c.self.view_is
+
+pub invariant_of-self-2 : goal.invariant_of-self-2
+invariant_of-self-2 c =
+    let low = there c.self.inside.formers.items c.self.inside.cells.items c.args.self.now c.args.place c.self.view_is c.requires.there in
+    let none : c.index_mut-cell.result.now.mark ≡ None =
+    none_mark _ (ap (λ k. is_some k.mark) (one_cell c.self.inside.cells.items c.args.place c.index_mut-cell.result.now c.index.result.now low c.index_mut-cell.ensures.value c.index.ensures) ∙ sym c.is_some.ensures ∙ c.if-is_some.false) in
+    let n : c.len.result ≡ length c.self.inside.formers.items = omega (arith, c.len.ensures, c.reserve.ensures.len, c.self.inside.formers.ok) in
+    first_cells c.self.inside.formers.items c.push.new.self.items c.self.inside.cells.items c.args.place c.index_mut-cell.result.now _ c.args.one (record {
+      kept = c.in-Ok.ensures.items ∙ ap₂ (λ formers was. formers ++ record { place = c.args.place; was = was } ∷ []) c.reserve.ensures.items c.replace-was.ensures.value;
+      cell = ap₂ (λ present n. record { present = present; mark = Some n }) c.replace-was.ensures.after n;
+    }) low c.index_mut-cell.ensures.value none (may_stand _ c.args.self.now c.args.place c.args.one c.self.view_is c.requires.stands) c.self.invariant
+
+pub returns-clause-ok : goal.returns-clause-ok
+returns-clause-ok c =
+    let low = there c.self.inside.formers.items c.self.inside.cells.items c.args.self.now c.args.place c.self.view_is c.requires.there in
+    let none : c.index_mut-cell.result.now.mark ≡ None =
+    none_mark _ (ap (λ k. is_some k.mark) (one_cell c.self.inside.cells.items c.args.place c.index_mut-cell.result.now c.index.result.now low c.index_mut-cell.ensures.value c.index.ensures) ∙ sym c.is_some.ensures ∙ c.if-is_some.false) in
+    let n : c.len.result ≡ length c.self.inside.formers.items = omega (arith, c.len.ensures, c.reserve.ensures.len, c.self.inside.formers.ok) in
+    first_shown c.self.inside.formers.items c.push.new.self.items c.self.inside.cells.items c.args.place c.index_mut-cell.result.now _ c.args.one (record {
+      kept = c.in-Ok.ensures.items ∙ ap₂ (λ formers was. formers ++ record { place = c.args.place; was = was } ∷ []) c.reserve.ensures.items c.replace-was.ensures.value;
+      cell = ap₂ (λ present n. record { present = present; mark = Some n }) c.replace-was.ensures.after n;
+    }) low c.index_mut-cell.ensures.value none c.self.invariant.tied
+    ∙ ap (λ all. put all c.args.place (look_in c.args.one)) c.self.view_is

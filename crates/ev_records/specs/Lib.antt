@@ -1,0 +1,6 @@
+pub mod Showing
+pub mod Changes
+pub mod Standing
+pub mod Turned
+pub mod Cells
+pub mod Ranks

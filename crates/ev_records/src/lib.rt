@@ -1,0 +1,12 @@
+//! The records of all objects, kept from start to start and changed in place.
+#![tactic(auto)]
+
+mod cell;
+mod changes;
+mod ranks;
+mod records;
+mod turned;
+
+pub use ev_region::NoMemory;
+pub use ranks::Ranks;
+pub use records::Records;
