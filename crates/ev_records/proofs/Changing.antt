@@ -2,6 +2,7 @@
 use Rattle.std.proofs.Common.{◌≡◌, ◌≢◌, ℕ, zero, suc, ◌<◌, ◌≤◌, ◌+◌, ◌⊎◌, ⊎_elim, inl, inr, Bool, true, false, ◌==◌, if◌then◌else◌, All, IfSome, is_some, List, [], ◌∷◌, ◌++◌, map, get_or, set, length, drop, Option, Some, None, refl, sym, ap, ap₂, ◌∙◌, arith, true≢false, subst, get_or-set_other, get_or-set_same}
 use Rattle.std.proofs.lemmas.Bool.{eqb-true, eq-eqb}
 use Rattle.std.proofs.lemmas.Grind.{common_steps}
+use Rattle.std.proofs.lemmas.Int.{ints}
 use Rattle.std.proofs.lemmas.List.{map-set, map-append, get_or-map, drop_more, append_assoc}
 use Rattle.std.proofs.lemmas.List.Elements.{All-nil, All-append}
 use Rattle.ev_geom.specs.Area.{Area}
@@ -10,7 +11,7 @@ use Rattle.ev_model.specs.Look.{Look, look_of}
 use Rattle.ev_model.specs.declared.scene.Record.{Record}
 use Rattle.ev_damage.specs.Marked.{is_marked}
 use Rattle.ev_damage.proofs.Members.{or_left, or_right}
-use Rattle.ev_records.specs.Showing.{Showing, nothing, showing, put, settled, Shows, HavePlaces, IsNewElsewhere}
+use Rattle.ev_records.specs.Showing.{Showing, nothing, showing, put, settled, Shows, HavePlaces, IsNewElsewhere, IsOnCanvas}
 use Rattle.ev_records.specs.Changes.{is_same, changed, changed_in, changes}
 use Rattle.ev_records.specs.Turned.{still, still_area}
 use Rattle.ev_records.specs.Cells.{look_in, MayStand, no_former, former_at, or_kept, before_of, showing_of, shown, places_of, AreTied, AreCells, empty_cell, present_at, settled_cell, AreSettled}
@@ -71,9 +72,9 @@ places_put all at one have may less = record {
       (λ b. a.0 ∙ sym b.0)
       (after_put all at j (look_in one) m less t))
       (after_put all at i (look_in one) l less s);
-  fits = λ i l s. ⊎_elim
-      (λ a. have.fits i l a)
-      (λ a. (new_at all at one l may a.1).fits)
+  inside = λ i l s. ⊎_elim
+      (λ a. have.inside i l a)
+      (λ a. (new_at all at one l may a.1).inside)
       (after_put all at i (look_in one) l less s);
 }
 
@@ -265,6 +266,10 @@ changes_more formers cells i f now new all tied so_far inside is e =
     ap (λ areas. areas ++ rest) (e ∙ ap (λ areas. now ++ areas) here) ∙ append_assoc now (changed_in (showing (shown formers cells) f.place)) rest
     ∙ ap (λ fs. now ++ changes (shown formers cells) (places_of fs)) (sym split) ∙ so_far
 
+-- a region has room for an area of a canvas
+canvas_fits : (a : Area) → IsOnCanvas a → FitsRegion a
+canvas_fits a h wide high = record { left = h.left; top = h.top; right = omega (arith, ints, h.right); bottom = omega (arith, ints, h.bottom) }
+
 single_fits : (a : Area) → FitsRegion a → All FitsRegion (a ∷ [])
 single_fits a h zero d l = h
 single_fits a h (suc i) d l = absurd (omega (arith, l))
@@ -281,7 +286,7 @@ one_fit (Some l) (Some m) h k = two_fit l.area m.area (is_same l m) (h l refl) (
 
 pub changes_fit : (all : List Showing) (places : List ℕ) → HavePlaces all → All FitsRegion (changes all places)
 changes_fit all [] have = All-nil FitsRegion
-changes_fit all (k ∷ ks) have = All-append FitsRegion (changed_in (showing all k)) (changes all ks) (one_fit (showing all k).was (showing all k).now (λ l e. have.fits k l (inl e)) (λ l e. have.fits k l (inr e))) (changes_fit all ks have)
+changes_fit all (k ∷ ks) have = All-append FitsRegion (changed_in (showing all k)) (changes all ks) (one_fit (showing all k).was (showing all k).now (λ l e. canvas_fits l.area (have.inside k l (inl e))) (λ l e. canvas_fits l.area (have.inside k l (inr e)))) (changes_fit all ks have)
 
 -- the area of a place that shows the same
 pub still_unmarked : (formers : List Former) (c : Cell) (r : Record) → c.present ≡ Some r → c.mark ≡ None → Some r.area ≡ still (showing_of formers c)
@@ -302,7 +307,7 @@ pub still_nothing : (formers : List Former) (c : Cell) → c.present ≡ None �
 still_nothing formers c e = sym (ap (λ p. still_area (look_in (before_of formers c)) (look_in p)) e ∙ no_still (look_in (before_of formers c)))
 
 pub still_fits : (all : List Showing) (place : ℕ) → HavePlaces all → IfSome (still (showing all place)) FitsRegion
-still_fits all place have = go (showing all place).was (showing all place).now (λ l e. have.fits place l (inl e)) where
+still_fits all place have = go (showing all place).was (showing all place).now (λ l e. canvas_fits l.area (have.inside place l (inl e))) where
   test : (a : Area) (t : Bool) → FitsRegion a → IfSome (if t then Some a else None) FitsRegion
   test a true h = h
   test a false h = tt
@@ -327,7 +332,7 @@ cells_added formers cells are =
     record {
       places = subst P (sym s) (record {
         one = λ i j l m a b e. are.places.one i j l m (nothing_at (shown formers cells) i l a) (nothing_at (shown formers cells) j m b) e;
-        fits = λ i l a. are.places.fits i l (nothing_at (shown formers cells) i l a);
+        inside = λ i l a. are.places.inside i l (nothing_at (shown formers cells) i l a);
       });
       tied = record {
         kept = λ place k d l e. ⊎_elim

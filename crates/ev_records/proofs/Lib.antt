@@ -5,3 +5,4 @@ pub mod Settling
 pub mod Gatherings
 pub mod Ranking
 pub mod Numbering
+pub mod Nearing

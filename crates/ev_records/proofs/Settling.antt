@@ -60,7 +60,7 @@ shown_settled formers (o ∷ os) (n ∷ ns) e h =
     let b : map (λ c. c.present) ns ≡ map (λ c. c.present) os = cc in
     ap₂ ◌∷◌ (no_mark [] n (h 0 n (omega arith)) ∙ ap (λ p. record { was = look_in p; now = look_in p }) a) (shown_settled formers os ns b (λ place d l. h (suc place) d (omega (arith, l))))
 
-settled_at : (all : List Showing) (i : ℕ) → showing (map settled all) i ≡ settled (showing all i)
+pub settled_at : (all : List Showing) (i : ℕ) → showing (map settled all) i ≡ settled (showing all i)
 settled_at [] i = refl
 settled_at (s ∷ all) zero = refl
 settled_at (s ∷ all) (suc i) = settled_at all i
@@ -68,7 +68,7 @@ settled_at (s ∷ all) (suc i) = settled_at all i
 places_settled : (all : List Showing) → HavePlaces all → HavePlaces (map settled all)
 places_settled all have = record {
   one = λ i j l m s t e. have.one i j l m (here i l s) (here j m t) e;
-  fits = λ i l s. have.fits i l (here i l s);
+  inside = λ i l s. have.inside i l (here i l s);
 } where
   here : (i : ℕ) (l : Look) → Shows (showing (map settled all) i) l → Shows (showing all i) l
   here i l s = ⊎_elim (λ e. inr (sym (ap (λ s. s.was) (settled_at all i)) ∙ e)) (λ e. inr (sym (ap (λ s. s.now) (settled_at all i)) ∙ e)) s

@@ -102,7 +102,7 @@ ordered_in l m (k ∷ ks) (inl e) =
 ordered_in l m (k ∷ ks) (inr o) = or_right (k.id == l.id && list_any (λ n. n.id == m.id) ks) (in_order l.id m.id ks) (ordered_in l m ks o)
 
 -- what lies in the area of a place that shows the same
-still_told : (o p : Option Look) (x y : ℤ) → held_in (still_area o p) x y ≡ true → (l : Look) × (m : Look) × (o ≡ Some l) × (p ≡ Some m) × (is_same l m ≡ true) × (holds l.area x y ≡ true)
+pub still_told : (o p : Option Look) (x y : ℤ) → held_in (still_area o p) x y ≡ true → (l : Look) × (m : Look) × (o ≡ Some l) × (p ≡ Some m) × (is_same l m ≡ true) × (holds l.area x y ≡ true)
 still_told None p x y e = absurd (true≢false (sym e))
 still_told (Some l) None x y e = absurd (true≢false (sym e))
 still_told (Some l) (Some m) x y e = go (is_same l m) refl e where
@@ -117,20 +117,20 @@ same_told : (l : Look) (o : Option Look) → same_in l o ≡ true → (m : Look)
 same_told l None e = absurd (true≢false (sym e))
 same_told l (Some m) e = (m, refl, e)
 
-marked_In : (ks : List ℕ) (k : ℕ) → is_marked ks k ≡ true → In k ks
+pub marked_In : (ks : List ℕ) (k : ℕ) → is_marked ks k ≡ true → In k ks
 marked_In ks k e = let r = any_In (λ j. j == k) ks e in let P : ℕ → Type 0 = λ i. In i ks in subst P (eqb-true r.0 k r.2) r.1
 
-In_marked : (ks : List ℕ) (k : ℕ) → In k ks → is_marked ks k ≡ true
+pub In_marked : (ks : List ℕ) (k : ℕ) → In k ks → is_marked ks k ≡ true
 In_marked ks k i = In_any (λ j. j == k) k ks i (eq-eqb k k refl)
 
-below_at : (p : ℕ → Bool) (n k : ℕ) → k < n → p k ≡ true → any_below p n ≡ true
+pub below_at : (p : ℕ → Bool) (n k : ℕ) → k < n → p k ≡ true → any_below p n ≡ true
 below_at p zero k l e = absurd (omega (arith, l))
 below_at p (suc n) k l e = ⊎_elim
     (λ less. or_left (any_below p n) (p n) (below_at p n k less e))
     (λ ge. let s : k ≡ n = omega (arith, ge, l) in or_right (any_below p n) (p n) (ap p (sym s) ∙ e))
     (cases_lt k n)
 
-at_below : (p : ℕ → Bool) (n : ℕ) → any_below p n ≡ true → (k : ℕ) × (p k ≡ true)
+pub at_below : (p : ℕ → Bool) (n : ℕ) → any_below p n ≡ true → (k : ℕ) × (p k ≡ true)
 at_below p zero e = absurd (true≢false (sym e))
 at_below p (suc n) e = ⊎_elim (λ t. at_below p n t) (λ t. (n, t)) (either (any_below p n) (p n) e)
 

@@ -4,3 +4,4 @@ pub mod Standing
 pub mod Turned
 pub mod Cells
 pub mod Ranks
+pub mod Near

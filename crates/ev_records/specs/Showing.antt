@@ -1,7 +1,9 @@
 -- What stands in each place now, and stood there at the start before.
 use Rattle.std.specs.Prelude.{◌≡◌, ℕ, ◌⊎◌, true, List, filter_map, get_or, slice_set, Option, Some, None}
-use Rattle.ev_geom.specs.Bands.{FitsRegion}
+use Rattle.ev_geom.specs.Area.{Area}
+use Rattle.ev_model.specs.Capture.{IsInside}
 use Rattle.ev_model.specs.Look.{Look}
+use Rattle.ev_model.specs.Stage.{canvas_on}
 use Rattle.ev_damage.specs.Marked.{is_marked}
 
 -- what a place showed at the start before, and what it shows now
@@ -36,15 +38,19 @@ settled s = record { was = s.now; now = s.now }
 abbrev pub Shows : Showing → Look → Type 0
 Shows s l = (s.was ≡ Some l) ⊎ (s.now ≡ Some l)
 
--- an object has no more than one place, and a region has room for each area
+-- an area lies on the greatest canvas
+abbrev pub IsOnCanvas : Area → Type 0
+IsOnCanvas area = IsInside (canvas_on 4096 4096) area
+
+-- an object has no more than one place, and each area lies on the greatest canvas
 pub record HavePlaces (all : List Showing) : Type 0 where
   pub one : (i j : ℕ) (l m : Look) → Shows (showing all i) l → Shows (showing all j) m → l.id ≡ m.id → i ≡ j
-  pub fits : (i : ℕ) (l : Look) → Shows (showing all i) l → FitsRegion l.area
+  pub inside : (i : ℕ) (l : Look) → Shows (showing all i) l → IsOnCanvas l.area
 
--- no other place shows the object of this look, or did so at the start before
+-- no other place shows the object of this look, or did so at the start before, and its area lies on the greatest canvas
 pub record IsNewElsewhere (all : List Showing) (place : ℕ) (l : Look) : Type 0 where
   pub apart : (i : ℕ) (m : Look) → Shows (showing all i) m → m.id ≡ l.id → i ≡ place
-  pub fits : FitsRegion l.area
+  pub inside : IsOnCanvas l.area
 
 -- each place that showed something at the start before stands in one order, and each that does so now in the other
 pub record Have (before after : List ℕ) (all : List Showing) : Type 0 where

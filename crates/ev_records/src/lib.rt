@@ -3,6 +3,7 @@
 
 mod cell;
 mod changes;
+mod near;
 mod ranks;
 mod records;
 mod turned;

@@ -8,8 +8,10 @@ ghost use Rattle.ev_records.specs.Turned.{still, still_area};
 
 use crate::cell::{Cell, Former};
 use crate::changes::{changed_areas, is_same};
+use crate::near::packed;
 use crate::turned::push_turned;
 use crate::{NoMemory, Ranks};
+use ev_areas::PackedArea;
 use ev_damage::united;
 use ev_geom::Rect;
 use ev_model::Record;
@@ -22,20 +24,22 @@ use std::mem::replace;
 /// before. Only what changed since then is kept twice (docs/ARCHITECTURE.md, "Records").
 #[derive(Drop)]
 pub struct Records {
-    cells: Vec<Cell>,
+    pub(crate) cells: Vec<Cell>,
     formers: Vec<Former>,
+    pub(crate) areas: Vec<PackedArea>,
 }
 
 impl Model for Records {
     ghost use Rattle.std.specs.Prelude.{List};
     ghost use Rattle.ev_records.specs.Showing.{Showing};
-    ghost use Rattle.ev_records.specs.Cells.{shown, AreCells};
+    ghost use Rattle.ev_records.specs.Cells.{shown};
+    ghost use Rattle.ev_records.specs.Near.{AreRecords};
 
     ghost Value = { List Showing };
 
     ghost view = { λ r. shown r.formers.items r.cells.items };
 
-    ghost invariant = { λ r. AreCells r.formers.items r.cells.items };
+    ghost invariant = { λ r. AreRecords r.formers.items r.cells.items r.areas.items };
 }
 
 impl Records {
@@ -50,6 +54,7 @@ impl Records {
         Records {
             cells: Vec::new(alloc),
             formers: Vec::new(alloc),
+            areas: Vec::new(alloc),
         }
     }
 
@@ -65,27 +70,34 @@ impl Records {
         ensures ok { OnOk result (self.new ≡ self.old ++ nothing ∷ []) }
         ensures err { OnErr result (self.new ≡ self.old) }
     {
+        self.areas.reserve(1)?;
         self.cells.push(Cell {
             present: None,
             mark: None,
         })?;
+        let Ok(()) = self.areas.push(PackedArea::NOWHERE) else {
+            unreachable!()
+        };
         Ok(())
     }
 
-    /// A place gets this record, or none. Its area is empty or has all its pixels from 0 to 999,999
-    /// each way, and its object stands in no other place and stood in none at the start before. The
-    /// place may have had another object. `NoMemory`: then nothing changes.
+    /// A place gets this record, or none. Its area lies on a canvas of 4096 by 4096 pixels, and its
+    /// object stands in no other place and stood in none at the start before. The place may have had
+    /// another object. `NoMemory`: then nothing changes.
     pub fn put(&mut self, place: usize, one: Option<Record>) -> Result<(), NoMemory>
         requires there { place < length self.old }
         requires stands { MayStand self.old place one }
         ensures ok { OnOk result (self.new ≡ put self.old place (look_in one)) }
         ensures err { OnErr result (self.new ≡ self.old) }
     {
+        let area = packed(&one);
         if self.cells[place].mark.is_some() {
             self.cells[place].present = one;
+            self.areas[place] = area;
             return Ok(());
         }
         self.formers.reserve(1)?;
+        self.areas[place] = area;
         let cell = &mut self.cells[place];
         let was = replace(&mut cell.present, one);
         cell.mark = Some(self.formers.len());
@@ -97,8 +109,8 @@ impl Records {
 
     /// The pixels that may look different since the start before: the damage between what was painted
     /// then and what would be painted now, each in the order of its numbers (docs/CANVAS.md, Damage).
-    /// It costs what was put since, and for each place that was given another number a look at all
-    /// places. `NoMemory` where there is no room for the region.
+    /// It costs what was put since, and where places were given other numbers a look at all areas for
+    /// each few of these. `NoMemory` where there is no room for the region.
     pub fn damage(&self, ranks: &Ranks) -> Result<Region, NoMemory>
         requires same { length ranks.now.stands ≡ length self.now }
         ensures { (before now : List ℕ) → Rises ranks.now.stood before → Rises ranks.now.stands now → Have before now self.now

@@ -15,7 +15,7 @@ united-requires c =
     let P : List Area → Type 0 = All FitsRegion in
     subst P (sym c.deref-3.ensures.value)
     (c.in_ok-push_turned.ensures.fits (subst P (sym (c.in_ok-areas.ensures ∙ same_changes _ _ _ _ c.deref.ensures.value c.deref-2.ensures.value))
-    (changes_fit (shown c.self.inside.formers.items c.self.inside.cells.items) (places_of c.self.inside.formers.items) c.self.invariant.places)))
+    (changes_fit (shown c.self.inside.formers.items c.self.inside.cells.items) (places_of c.self.inside.formers.items) c.self.invariant.kept.places)))
 
 pub returns : goal.returns
 returns c = λ before now rise rise' have. IfOk-weaker c.united.result _ _
@@ -24,7 +24,7 @@ returns c = λ before now rise rise' have. IfOk-weaker c.united.result _ _
     let Q : List Showing → Type 0 = Keeps (places_of c.self.inside.formers.items) in
     let R : List Area → Type 0 = λ areas. IsBandsOf (has_pixel areas) region in
     restacked_of c.args.self.now c.args.ranks.now (places_of c.self.inside.formers.items) c.moved.result.now before now c.in_ok-areas.areas.items _ region
-    (subst P c.self.view_is c.self.invariant.places) (subst Q c.self.view_is (keeps c.self.inside.formers.items c.self.inside.cells.items c.self.invariant.tied)) c.moved.ensures.stays
+    (subst P c.self.view_is c.self.invariant.kept.places) (subst Q c.self.view_is (keeps c.self.inside.formers.items c.self.inside.cells.items c.self.invariant.kept.tied)) c.moved.ensures.stays
     (c.in_ok-areas.ensures ∙ same_changes _ _ _ _ c.deref.ensures.value c.deref-2.ensures.value ∙ ap (λ all. changes all (places_of c.self.inside.formers.items)) c.self.view_is)
     c.in_ok-push_turned.ensures rise rise' have (subst R c.deref-3.ensures.value is))
     c.united.ensures

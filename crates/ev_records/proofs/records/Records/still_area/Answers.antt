@@ -14,4 +14,4 @@ returns-clause-fits c =
     ∙ ap (λ formers. still (showing_of formers c.index.result.now)) c.deref.ensures.value
     ∙ ap (λ cell. still (showing_of c.self.inside.formers.items cell)) c.index.ensures
     ∙ sym (ap still (shows c.self.inside.formers.items c.self.inside.cells.items c.args.place c.index.result.now low))))
-    (still_fits (shown c.self.inside.formers.items c.self.inside.cells.items) c.args.place c.self.invariant.places)
+    (still_fits (shown c.self.inside.formers.items c.self.inside.cells.items) c.args.place c.self.invariant.kept.places)
