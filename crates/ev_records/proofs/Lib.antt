@@ -6,3 +6,4 @@ pub mod Gatherings
 pub mod Ranking
 pub mod Numbering
 pub mod Nearing
+mod Boarding

@@ -6,6 +6,8 @@ mod changes;
 mod near;
 mod ranks;
 mod records;
+#[cfg(test)]
+mod tests;
 mod turned;
 
 pub use ev_region::NoMemory;

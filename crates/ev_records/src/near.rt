@@ -26,6 +26,23 @@ impl Records {
         Ok(found)
     }
 
+    // The same places, those whose areas begin farthest to the left first.
+    pub(crate) fn by_column(&self, alloc: Global, places: &[usize]) -> Result<Vec<usize>, NoMemory>
+        ensures { IfOk result (λ sorted. (place : ℕ) → is_marked sorted.items place ≡ is_marked places.now place) }
+    {
+        let mut sorted = Vec::from_slice(alloc, places)?;
+        sorted.sort_by_key(|place| self.column(*place))?;
+        Ok(sorted)
+    }
+
+    // The first column of what a place has now, for an order that nothing rests on.
+    fn column(&self, place: usize) -> u32 {
+        match self.cells.get(place) {
+            Some(cell) => edges_of(&cell.present).left,
+            None => 0,
+        }
+    }
+
     // Whether two places may have a pixel in common.
     pub(crate) fn may_meet(&self, a: usize, b: usize) -> bool
         requires a { a < length self.now }

@@ -118,7 +118,8 @@ impl Records {
     {
         let alloc = *self.cells.allocator();
         let mut areas = changed_areas(alloc, &self.formers, &self.cells)?;
-        push_turned(&mut areas, self, ranks, ranks.moved())?;
+        let moved = self.by_column(alloc, ranks.moved())?;
+        push_turned(&mut areas, self, ranks, &moved)?;
         united(alloc, &areas)
     }
 
