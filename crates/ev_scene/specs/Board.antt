@@ -7,7 +7,9 @@ use Rattle.ev_model.specs.Stage.{Stage}
 use Rattle.ev_model.specs.Up.{is_smart}
 use Rattle.ev_model.specs.declared.object.Object.{Object}
 use Rattle.ev_groups.specs.Groups.{siblings}
+use Rattle.ev_links.specs.Ties.{Ties}
 use Rattle.ev_scene.specs.Slots.{of_id, live, value_of}
+use Rattle.ev_scene.specs.Ties.{ties_of}
 
 pub record Board : Type 0 where
   -- the size of the canvas in pixels
@@ -51,3 +53,7 @@ inside b o = o.id ∷ (if is_smart o then ids_in b (Some o.id) else [])
 -- what is painted of a scene: its objects in their order
 abbrev pub stage_of : Board → Stage
 stage_of b = record { w = b.w; h = b.h; objects = filter_map (of_id b.objects) (ids_in b None) }
+
+-- the ties of all objects
+abbrev pub ties_on : Board → Ties
+ties_on b = ties_of (live b.objects)

@@ -1,10 +1,10 @@
 -- Edits of a scene: when each is refused, and what it does.
-use Rattle.std.specs.Prelude.{◌≡◌, ◌≢◌, ℕ, ◌+◌, ℤ, ◌+ℤ◌, ◌-ℤ◌, ◌≤ℤ◌, pos, neg_ℤ, Bool, true, false, not, ◌&&◌, ◌||◌, ◌==◌, nat_lt, unsigned_abs, if◌then◌else◌, List, [], ◌∷◌, ◌++◌, length, map, filter, filter_map, Option, Some, None, is_some, Result, MatchResult}
+use Rattle.std.specs.Prelude.{◌≡◌, ◌≢◌, ℕ, ◌+◌, ℤ, ◌+ℤ◌, ◌-ℤ◌, ◌≤ℤ◌, pos, neg_ℤ, Bool, true, false, not, ◌&&◌, ◌||◌, ◌==◌, nat_eq, nat_lt, unsigned_abs, if◌then◌else◌, List, [], ◌∷◌, ◌++◌, length, map, filter, filter_map, Option, Some, None, is_some, Result, MatchResult}
 use Rattle.std.specs.List.{list_any, list_all}
 use Rattle.std.specs.Option.{option_eq, option_map, option_map_or, option_and_then}
 use Rattle.std.specs.Ordering.{int_eq}
 use Rattle.ev_geom.specs.Area.{is_place, is_side}
-use Rattle.ev_model.specs.Up.{is_smart, is_clipped_by, up}
+use Rattle.ev_model.specs.Up.{is_smart, is_clipped_by}
 use Rattle.ev_model.specs.declared.command.Edit.{Edit}
 use Rattle.ev_model.specs.declared.command.Edit.TheVariants as edit
 use Rattle.ev_model.specs.declared.content.Content.{Content}
@@ -15,10 +15,12 @@ use Rattle.ev_model.specs.declared.refusal.Refusal.{Refusal}
 use Rattle.ev_model.specs.declared.refusal.Refusal.TheVariants as refusal
 use Rattle.ev_stack.specs.Order.{put_top, without}
 use Rattle.ev_stack.specs.Calls.{raised, lowered, relayered, placed_above, placed_below}
+use Rattle.ev_links.specs.Calls.{clip_fault, join_fault, leave_fault}
 use Rattle.ev_links.specs.Ties.{has}
 use Rattle.ev_groups.specs.Groups.{group, with_group, siblings}
 use Rattle.ev_scene.specs.Slots.{of_id, put, live}
-use Rattle.ev_scene.specs.Board.{Board, Kept, named, inside}
+use Rattle.ev_scene.specs.Board.{Board, Kept, named, inside, ties_on}
+use Rattle.ev_scene.specs.Links.{refusal_of}
 use Rattle.ev_scene.specs.Change.{apply, fresh, is_layer, is_canvas, are_channels, color_of, is_fill, fill_of, is_border, border_of}
 use Rattle.ev_scene.specs.declared.drawing.Drawing.TheVariants as drawing
 use Rattle.ev_scene.specs.declared.writing.Writing.TheVariants as writing
@@ -33,40 +35,24 @@ unless holds cause = if holds then None else Some cause
 abbrev pub known : Board → List ℕ → (Object → Option Refusal) → Option Refusal
 known board name test = option_map_or test (named board.objects name) (Some refusal.Unknown)
 
--- both stand in the same object, or in none
-abbrev pub are_siblings : Object → Object → Bool
-are_siblings o p = option_eq ◌==◌ o.parent p.parent
-
 -- why o cannot stand next to p
 abbrev pub beside : Object → Object → Option Refusal
 beside o p =
     if o.id == p.id then Some refusal.Itself
-    else if not (are_siblings o p) then Some refusal.Sibling
+    else if not (option_eq nat_eq o.parent p.parent) then Some refusal.Sibling
     else unless (int_eq o.layer p.layer) refusal.Layer
 
-abbrev pub is_rect : Content → Bool
-is_rect content.Rect = true
-is_rect other = false
-
--- why c cannot clip o
+-- why c cannot clip o, by the ties of all objects
 abbrev pub clip_verdict : Board → Object → Object → Option Refusal
-clip_verdict board o c =
-    if o.id == c.id then Some refusal.Itself
-    else if not (is_rect c.content) then Some refusal.Kind
-    else if not (are_siblings o c) then Some refusal.Sibling
-    else unless (not (list_any (λ u. u.id == o.id) (up (live board.objects) c))) refusal.Cycle
-
--- whether an object clips another one or has a clipper
-abbrev pub is_clipping : Board → Object → Bool
-is_clipping board o = list_any (is_clipped_by o.id) (live board.objects) || is_some o.clipper
+clip_verdict board o c = option_map refusal_of (clip_fault (ties_on board) o.id c.id)
 
 -- why o cannot join s
 abbrev pub join_verdict : Board → Object → Object → Option Refusal
-join_verdict board o s =
-    if o.id == s.id then Some refusal.Itself
-    else if not (is_smart s) then Some refusal.Kind
-    else if has (inside board o) s.id then Some refusal.Cycle
-    else unless (not (is_clipping board o)) refusal.Clipping
+join_verdict board o s = option_map refusal_of (join_fault (ties_on board) o.id s.id)
+
+-- why o cannot leave what it stands in
+abbrev pub leave_verdict : Board → Object → Option Refusal
+leave_verdict board o = option_map refusal_of (leave_fault (ties_on board) o.id)
 
 -- whether an object's place is in range, once it has moved by dx and dy
 abbrev pub may_shift : ℤ → ℤ → Object → Bool
@@ -117,7 +103,7 @@ verdict board (edit.Place name other above) = known board name (λ o. known boar
 verdict board (edit.Clip name clipper) = known board name (λ o. known board clipper (clip_verdict board o))
 verdict board (edit.Unclip name) = known board name (λ o. None)
 verdict board (edit.Member name smart) = known board name (λ o. known board smart (join_verdict board o))
-verdict board (edit.Free name) = known board name (λ o. unless (not (is_clipping board o)) refusal.Clipping)
+verdict board (edit.Free name) = known board name (leave_verdict board)
 verdict board (edit.File name key) = known board name (image_verdict true)
 verdict board (edit.Font name key) = known board name text_verdict
 verdict board (edit.Say name text) = known board name text_verdict
@@ -201,7 +187,7 @@ rehomed parent board o = record (changed (change.Enter parent) board o) { groups
 
 -- a member stays where it is
 abbrev pub homed : Option ℕ → Board → Object → Board
-homed parent board o = if option_eq ◌==◌ o.parent parent then board else rehomed parent board o
+homed parent board o = if option_eq nat_eq o.parent parent then board else rehomed parent board o
 
 -- what an edit does
 abbrev pub effect : Board → Edit → Board

@@ -2,6 +2,7 @@ pub mod Slots
 pub mod Ties
 pub mod Board
 pub mod Change
+pub mod Links
 pub mod Edits
 pub mod Kinds
 pub mod Loads
@@ -11,5 +12,4 @@ pub mod Captured
 pub mod Roll
 pub mod Whole
 pub mod Cast
-pub mod Links
 pub mod Sights

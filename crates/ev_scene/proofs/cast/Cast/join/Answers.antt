@@ -6,19 +6,16 @@ use Rattle.ev_scene.proofs.cast.Cast.join.Goals as goal
 
 pub returns-in-Some-join_fault-clause-edits : goal.returns-in-Some-join_fault-clause-edits
 returns-in-Some-join_fault-clause-edits c = (
-  join_refuses c.requires.whole c.tell_ties.ensures
-      c.args.name.now c.args.smart.now c.in-Some.object.now c.in-Some-named.parent.now (c.in-Some.ensures).value (c.in-Some-named.ensures).value (c.in-Some.ensures).there (c.in-Some-named.ensures).there
+  join_refuses c.requires.whole c.args.name.now c.args.smart.now c.in-Some.object.now c.in-Some-named.parent.now (c.in-Some.ensures).value (c.in-Some-named.ensures).value
       c.in-Some-join_fault.fault c.refusal_of.result (c.in-Some-join_fault.ensures).value c.refusal_of.ensures,
   refl,
 )
 
 pub returns-then-eq-clause-edits : goal.returns-then-eq-clause-edits
 returns-then-eq-clause-edits c = (
-  join_allows c.requires.whole c.tell_ties.ensures
-      c.args.name.now c.args.smart.now c.in-Some.object.now c.in-Some-named.parent.now (c.in-Some.ensures).value (c.in-Some-named.ensures).value (c.in-Some.ensures).there (c.in-Some-named.ensures).there
+  join_allows c.requires.whole c.args.name.now c.args.smart.now c.in-Some.object.now c.in-Some-named.parent.now (c.in-Some.ensures).value (c.in-Some-named.ensures).value
       (c.in_default-join_fault.ensures).value,
-  join_kept c.requires.whole c.tell_ties.ensures
-      c.args.name.now c.args.smart.now c.in-Some.object.now c.in-Some-named.parent.now (c.in-Some.ensures).value (c.in-Some-named.ensures).value (c.in-Some.ensures).there (c.in-Some-named.ensures).there
+  join_kept c.requires.whole c.args.name.now c.args.smart.now c.in-Some.object.now c.in-Some-named.parent.now (c.in-Some.ensures).value (c.in-Some-named.ensures).value
       c.if-eq.ensures,
 )
 
@@ -29,17 +26,14 @@ rehome-requires-clause-known c =
 pub returns-in_err-rehome-clause-edits : goal.returns-in_err-rehome-clause-edits
 returns-in_err-rehome-clause-edits c =
     wanting _ _ _ _ c.from_residual.result
-    (join_allows c.requires.whole c.tell_ties.ensures
-    c.args.name.now c.args.smart.now c.in-Some.object.now c.in-Some-named.parent.now (c.in-Some.ensures).value (c.in-Some-named.ensures).value (c.in-Some.ensures).there (c.in-Some-named.ensures).there
+    (join_allows c.requires.whole c.args.name.now c.args.smart.now c.in-Some.object.now c.in-Some-named.parent.now (c.in-Some.ensures).value (c.in-Some-named.ensures).value
     (c.in_default-join_fault.ensures).value)
     c.from_residual.ensures.1 (ap board (c.in_err-rehome.ensures).err)
 
 pub returns-clause-edits : goal.returns-clause-edits
 returns-clause-edits c = (
-  join_allows c.requires.whole c.tell_ties.ensures
-      c.args.name.now c.args.smart.now c.in-Some.object.now c.in-Some-named.parent.now (c.in-Some.ensures).value (c.in-Some-named.ensures).value (c.in-Some.ensures).there (c.in-Some-named.ensures).there
+  join_allows c.requires.whole c.args.name.now c.args.smart.now c.in-Some.object.now c.in-Some-named.parent.now (c.in-Some.ensures).value (c.in-Some-named.ensures).value
       (c.in_default-join_fault.ensures).value,
-  join_moved c.requires.whole c.tell_ties.ensures
-      c.args.name.now c.args.smart.now c.in-Some.object.now c.in-Some-named.parent.now (c.in-Some.ensures).value (c.in-Some-named.ensures).value (c.in-Some.ensures).there (c.in-Some-named.ensures).there
+  join_moved c.requires.whole c.args.name.now c.args.smart.now c.in-Some.object.now c.in-Some-named.parent.now (c.in-Some.ensures).value (c.in-Some-named.ensures).value
       _ c.if-eq.ensures ((c.in_ok-rehome.ensures).ok c.in-Some.object.now (c.in-Some.ensures).there),
 )
