@@ -4,6 +4,7 @@ use Rattle.std.specs.FinMap.{get}
 use Rattle.std.specs.Option.{option_map, option_and_then, option_map_or, option_eq}
 use Rattle.std.specs.Prelude.{nat_eq}
 use Rattle.std.proofs.Math.Bool.{true≢false}
+use Rattle.std.proofs.lemmas.Bool.{or_right}
 use Rattle.std.proofs.lemmas.Bool.Decides.{nat_tests, eqb_tells}
 use Rattle.std.proofs.lemmas.Option.{none-some, same_Some}
 use Rattle.std.proofs.lemmas.List.{drop_more, drop_all, length-set, length-map}
@@ -35,11 +36,7 @@ use Rattle.ev_scene.proofs.Releasing.{unclipped, spread_released}
 has_at : (ids : List ℕ) (i : ℕ) → i < length ids → has ids (get_or ids i 0) ≡ true
 has_at [] i low = absurd (omega (arith, low))
 has_at (x ∷ ids) zero low = ap (λ b. b || has ids x) (eq-eqb x x refl)
-has_at (x ∷ ids) (suc i) low = or_true (x == get_or ids i 0) (has_at ids i (omega (arith, low)))
-  where
-    or_true : (a : Bool) {b : Bool} → b ≡ true → (a || b) ≡ true
-    or_true true e = refl
-    or_true false e = e
+has_at (x ∷ ids) (suc i) low = or_right (x == get_or ids i 0) _ (has_at ids i (omega (arith, low)))
 
 pub no_zero : (ids : List ℕ) (i : ℕ) → i < length ids → has ids 0 ≡ false → get_or ids i 0 ≢ 0
 no_zero ids i low none is = true≢false (sym (has_at ids i low) ∙ ap (has ids) is ∙ none)
@@ -72,7 +69,7 @@ at_each f [] j = refl
 at_each f (slot ∷ slots) zero = refl
 at_each f (slot ∷ slots) (suc j) = at_each f slots j
 
-of_id_each : {A B : Type 0} (f : A → Option B) (slots : List (Option A)) (id : ℕ) → of_id (map (λ slot. option_and_then f slot) slots) id ≡ option_and_then f (of_id slots id)
+pub of_id_each : {A B : Type 0} (f : A → Option B) (slots : List (Option A)) (id : ℕ) → of_id (map (λ slot. option_and_then f slot) slots) id ≡ option_and_then f (of_id slots id)
 of_id_each f slots zero = refl
 of_id_each f slots (suc j) = of_id_suc (map (λ slot. option_and_then f slot) slots) j ∙ at_each f slots j ∙ ap (option_and_then f) (sym (of_id_suc slots j))
 

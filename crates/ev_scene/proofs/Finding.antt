@@ -20,27 +20,11 @@ use Rattle.ev_scene.proofs.Naming.{NamedBy, named_by, unnamed, free_name, own_va
 -- a change leaves the id and the name
 apply_id : (c : Change) (o : Object) → (apply c o).id ≡ o.id
 apply_id (change.Place x y) o = refl
-apply_id (change.Side w h) o = refl
-apply_id (change.Appear on) o = refl
-apply_id (change.Paint color) o = refl
-apply_id (change.Treat op) o = refl
-apply_id (change.Draw d) o = refl
-apply_id (change.Write w) o = refl
-apply_id (change.Lift layer) o = refl
-apply_id (change.Clip clipper) o = refl
-apply_id (change.Enter parent) o = refl
+apply_id other o = refl
 
 apply_name : (c : Change) (o : Object) → (apply c o).name ≡ o.name
 apply_name (change.Place x y) o = refl
-apply_name (change.Side w h) o = refl
-apply_name (change.Appear on) o = refl
-apply_name (change.Paint color) o = refl
-apply_name (change.Treat op) o = refl
-apply_name (change.Draw d) o = refl
-apply_name (change.Write w) o = refl
-apply_name (change.Lift layer) o = refl
-apply_name (change.Clip clipper) o = refl
-apply_name (change.Enter parent) o = refl
+apply_name other o = refl
 
 module _ (states : List (Option (Held Object))) (ids : List (Label × ℕ)) (seen : List (Option (Held Object))) (roll : IsRoll states ids) (is : states ≡ seen) where
   pub led_to : (name : List ℕ) (id : ℕ) → Some id ≡ id_in ids name → of_id (values_of seen) id ≡ named (values_of seen) name
@@ -48,12 +32,6 @@ module _ (states : List (Option (Held Object))) (ids : List (Label × ℕ)) (see
       let P : List (Option (Held Object)) → Type 0 = λ seen. of_id (values_of seen) id ≡ named (values_of seen) name in
       let by : NamedBy states name id = named_by states ids roll name id (sym leads) in
       subst P is (of_id_map value_of states id ∙ ap (option_map value_of) by.there ∙ sym by.first)
-
-  pub led_id : (name : List ℕ) (id : ℕ) → Some id ≡ id_in ids name → Some id ≡ option_map (λ o. o.id) (named (values_of seen) name)
-  led_id name id leads =
-      let P : List (Option (Held Object)) → Type 0 = λ seen. Some id ≡ option_map (λ o. o.id) (named (values_of seen) name) in
-      let by : NamedBy states name id = named_by states ids roll name id (sym leads) in
-      subst P is (ap Some (sym by.own) ∙ sym (ap (option_map (λ o. o.id)) by.first))
 
   pub led_nowhere : (name : List ℕ) → None ≡ id_in ids name → None ≡ named (values_of seen) name
   led_nowhere name leads =
@@ -86,9 +64,6 @@ module _ (states : List (Option (Held Object))) (ids : List (Label × ℕ)) (see
       → ((q : Label) → lookup (same_label q) ids' ≡ cond (same_label (record { name = name }) q) None (lookup (same_label q) ids)) → length ids' + 1 ≡ length ids
       → IsRoll (put states id None) ids'
   removed_from ids' name id leads others fewer = removed states ids ids' name id roll (sym leads) (λ q. others (record { name = q })) fewer
-
-  pub led_low : (name : List ℕ) (id : ℕ) → Some id ≡ id_in ids name → 1 ≤ id
-  led_low name id leads = let by : NamedBy states name id = named_by states ids roll name id (sym leads) in id_low states id by.state by.there
 
   pub led_high : (name : List ℕ) (id : ℕ) → Some id ≡ id_in ids name → id - 1 < length states
   led_high name id leads = let by : NamedBy states name id = named_by states ids roll name id (sym leads) in id_high states id by.state by.there

@@ -2,7 +2,7 @@
 use Rattle.std.proofs.Common.{◌≡◌, ℕ, zero, suc, Bool, true, false, cond, if◌then◌else◌, List, [], ◌∷◌, ◌++◌, map, slice_set, Option, Some, None, ◌⊎◌, inl, inr, refl, sym, subst, ◌∙◌}
 use Rattle.std.specs.List.{find}
 use Rattle.std.specs.Option.{option_map, option_and_then, option_map_or, option_eq}
-use Rattle.std.specs.Prelude.{All, IfSome, ℤ, ◌-ℤ◌, ◌==◌}
+use Rattle.std.specs.Prelude.{nat_eq, All, IfSome, ℤ, ◌-ℤ◌, ◌==◌}
 use Rattle.std.proofs.lemmas.Option.{none-some, same_Some, IfSome_then}
 use Rattle.ev_model.specs.Glyphs.{Glyphs}
 use Rattle.ev_model.specs.Loaded.{Loaded}
@@ -105,14 +105,10 @@ module _ (P : Loaded Raster → Type 0) (Q : Loaded Glyphs → Type 0) where
   Draws _ = Unit {0}
 
   draws : (d : Drawing) (c : Content) → Draws d → Contents c → Contents (drawn d c)
-  draws d content.Rect b h = h
-  draws d content.Smart b h = h
   draws d (content.Text part) b h = h
-  draws (drawing.Fill fill) (content.Image part) b h = h
-  draws (drawing.Border border) (content.Image part) b h = h
-  draws (drawing.Center on) (content.Image part) b h = h
   draws (drawing.File key) (content.Image part) b h = (tt, tt)
   draws (drawing.Load loaded) (content.Image part) b h = (b, tt)
+  draws d other b h = h
 
   -- what a change of a text brings
   abbrev Writes : Writing → Type 0
@@ -120,12 +116,10 @@ module _ (P : Loaded Raster → Type 0) (Q : Loaded Glyphs → Type 0) where
   Writes _ = Unit {0}
 
   writes : (w : Writing) (c : Content) → Writes w → Contents c → Contents (written w c)
-  writes w content.Rect b h = h
-  writes w content.Smart b h = h
   writes w (content.Image part) b h = h
   writes (writing.Font key) (content.Text part) b h = (tt, tt)
-  writes (writing.Say text) (content.Text part) b h = h
   writes (writing.Load loaded) (content.Text part) b h = (tt, b)
+  writes w other b h = h
 
   -- what a change brings
   abbrev Brings : Change → Type 0
@@ -134,23 +128,14 @@ module _ (P : Loaded Raster → Type 0) (Q : Loaded Glyphs → Type 0) where
   Brings _ = Unit {0}
 
   applies : (c : Change) (o : Object) → Brings c → H o → H (apply c o)
-  applies (change.Place x y) o b h = record { image = h.image; font = h.font }
-  applies (change.Side w h') o b h = record { image = h.image; font = h.font }
-  applies (change.Appear on) o b h = record { image = h.image; font = h.font }
-  applies (change.Paint color) o b h = record { image = h.image; font = h.font }
-  applies (change.Treat op) o b h = record { image = h.image; font = h.font }
-  applies (change.Lift layer) o b h = record { image = h.image; font = h.font }
-  applies (change.Clip clipper) o b h = record { image = h.image; font = h.font }
-  applies (change.Enter parent) o b h = record { image = h.image; font = h.font }
   applies (change.Draw d) o b h = of_contents (apply (change.Draw d) o) (draws d o.content b (h.image, h.font))
   applies (change.Write w) o b h = of_contents (apply (change.Write w) o) (writes w o.content b (h.image, h.font))
+  applies other o b h = record { image = h.image; font = h.font }
 
   -- a new object has nothing from a load
   none_made : (id : ℕ) (name : List ℕ) (k : Kind) → H (fresh id name k)
   none_made id name kind.Rect = record { image = tt; font = tt }
-  none_made id name kind.Smart = record { image = tt; font = tt }
-  none_made id name kind.Image = record { image = tt; font = tt }
-  none_made id name kind.Text = record { image = tt; font = tt }
+  none_made id name other = record { image = tt; font = tt }
 
   leaves : (gone : List ℕ) (slot : Option Object) → IfSome slot H → IfSome (option_and_then (left gone) slot) H
   leaves gone None h = tt
@@ -178,7 +163,7 @@ module _ (P : Loaded Raster → Type 0) (Q : Loaded Glyphs → Type 0) where
       go false = changes (change.Place x y) tt o h
 
     homes : (parent : Option ℕ) (o : Object) → H o → Each H (homed parent board o).objects
-    homes parent o h = go (option_eq ◌==◌ o.parent parent) where
+    homes parent o h = go (option_eq nat_eq o.parent parent) where
       go : (b : Bool) → Each H (if b then board else rehomed parent board o).objects
       go true = each
       go false = changes (change.Enter parent) tt o h

@@ -17,7 +17,7 @@ use Rattle.ev_scene.specs.Change.{apply}
 use Rattle.ev_scene.specs.Edits.{Answers, Refuses, unless, known, with_named, move_verdict, move_writes, is_at, moved, may_shift, shifted_all, objects_in, changed}
 use Rattle.ev_scene.specs.declared.change.Change.{Change}
 use Rattle.ev_scene.specs.declared.change.Change.TheVariants as change
-use Rattle.ev_scene.proofs.Shifting.{both}
+use Rattle.std.proofs.lemmas.Bool.{and_parts}
 use Rattle.ev_scene.proofs.Verdicts.{wanting, changed_is}
 
 -- a test that was made, and what it gave
@@ -96,7 +96,7 @@ module _ (board : Board) (name : List ℕ) (o : Object) (is : Some o ≡ named b
   group_made dx dy ex ey made made' few still = subst (λ found. made' ≤ made + option_map_or (move_writes x y board) found 1) is (go (is_at x y o) refl) where
     go : (at : Bool) → is_at x y o ≡ at → made' ≤ made + (if at then 1 else length (inside board o))
     go true e =
-        let same = both (int_eq x o.rect.x) (int_eq y o.rect.y) e in
+        let same = and_parts (int_eq x o.rect.x) (int_eq y o.rect.y) e in
         let none : made' ≡ made = still (ex ∙ no_distance x o.rect.x same.0) (ey ∙ no_distance y o.rect.y same.1) in
         omega (arith, none)
     go false e = few

@@ -51,10 +51,6 @@ module _ {A : Type 0} (test : A → Bool) (find : ℕ → Option A) where
 abbrev pub MayBelow : ℤ → ℤ → List (Option Object) → Ties → ℕ → ℕ → Type 0
 MayBelow dx dy objects ties id n = (x : ℕ) → x < n → is_inside ties x id ≡ true → list_all (may_shift dx dy) (option_to_list (of_id objects x)) ≡ true
 
-pub may_first : (dx dy : ℤ) (objects : List (Option Object)) (ties : Ties) (id : ℕ) → MayBelow dx dy objects ties id 1
-may_first dx dy objects ties id zero low h = refl
-may_first dx dy objects ties id (suc x) low h = absurd (omega (arith, low))
-
 pub may_next : (dx dy : ℤ) (objects : List (Option Object)) (ties : Ties) (id n : ℕ) → MayBelow dx dy objects ties id n → (is_inside ties n id ≡ true → list_all (may_shift dx dy) (option_to_list (of_id objects n)) ≡ true)
     → MayBelow dx dy objects ties id (n + 1)
 may_next dx dy objects ties id n before here x low h =

@@ -4,6 +4,7 @@ use Rattle.std.specs.FinMap.{get}
 use Rattle.std.specs.List.{cons_option}
 use Rattle.std.specs.Option.{option_map, option_and_then, option_map_or}
 use Rattle.std.proofs.Math.Bool.{true≢false}
+use Rattle.std.proofs.lemmas.Bool.{and_right}
 use Rattle.std.proofs.lemmas.Bool.Decides.{nat_tests, eqb_tells}
 use Rattle.std.proofs.lemmas.Option.{none-some, same_Some}
 use Rattle.std.proofs.lemmas.List.{map-append, length-append, append_assoc, append-nil}
@@ -13,18 +14,19 @@ use Rattle.ev_model.specs.Up.{is_clipped_by}
 use Rattle.ev_model.specs.declared.object.Object.{Object}
 use Rattle.ev_stack.specs.Order.{layer_in, ids_of, ids_above, ids_from}
 use Rattle.ev_groups.specs.Groups.{group, siblings}
-use Rattle.ev_links.specs.Ties.{Ties, clipper_at, parent_at, has, IsSound, Counts}
+use Rattle.ev_links.specs.Ties.{Ties, clipper_at, has, IsSound, Counts}
 use Rattle.ev_links.proofs.Counts.{Counts-none}
+use Rattle.ev_links.proofs.Ways.{has-Has}
 use Rattle.ev_scene.specs.Slots.{of_id, spread, value_of}
 use Rattle.ev_scene.specs.Board.{Board, values_of}
 use Rattle.ev_scene.specs.Change.{apply}
 use Rattle.ev_scene.specs.Edits.{clipped_by}
 use Rattle.ev_scene.specs.Roll.{name_at, IsStateOf}
-use Rattle.ev_scene.specs.Ties.{tie_of}
 use Rattle.ev_scene.specs.Whole.{IsWhole}
 use Rattle.ev_scene.specs.declared.change.Change.TheVariants as change
 use Rattle.ev_scene.proofs.Places.{of_id_map}
 use Rattle.ev_scene.proofs.Standing.{stands_in}
+use Rattle.ev_scene.proofs.Trees.{has_layer, clipper_is, parent_is}
 use Rattle.ev_scene.proofs.Spreading.{spread_at, listed_stand, has_listed}
 
 module _ (find : ℕ → Option Object) (test : Object → Bool) where
@@ -96,11 +98,6 @@ all_states objects group id at over now end so_far =
 
 -- ---- the scene with them
 
--- who has a layer is one of the siblings
-has_sibling : (xs : List (ℕ × ℤ)) (id : ℕ) (layer : ℤ) → layer_in xs id ≡ Some layer → has (ids_of xs) id ≡ true
-has_sibling [] id layer e = absurd (none-some layer e)
-has_sibling (one ∷ xs) id layer e = elim (eqb_tells one.0 id) [ inl same ↦ rw same.0 refl | inr differ ↦ rw differ.0 (has_sibling xs id layer (rw differ.0 at e)) ]
-
 clipper_of : (id : ℕ) (p : Object) → is_clipped_by id p ≡ true → p.clipper ≡ Some id
 clipper_of id p e = go p.clipper e
   where
@@ -127,25 +124,15 @@ has_chosen slots test q p there (u ∷ objects) stand = go (test u) refl (has_ch
     go false f later = elim (eqb_tells u.id q) [
       | inl same ↦
           let fails : test p ≡ false = ap test (same_Some _ _ (sym there ∙ sym (ap (of_id slots) same.1) ∙ stand 0 u (omega arith))) ∙ f in
-          later ∙ ap (λ b. has (map (λ o. o.id) objects) q && b) fails ∙ and_false (has (map (λ o. o.id) objects) q) ∙ sym (rw same.0 fails)
+          later ∙ ap (λ b. has (map (λ o. o.id) objects) q && b) fails ∙ and_right (has (map (λ o. o.id) objects) q) false refl ∙ sym (rw same.0 fails)
       | inr differ ↦ rw differ.0 later
     ]
-      where
-        and_false : (b : Bool) → (b && false) ≡ false
-        and_false true = refl
-        and_false false = refl
 
 -- an object without this clipper
 abbrev pub unclipped : ℕ → Object → Object
 unclipped id p = if is_clipped_by id p then apply (change.Clip None) p else p
 
 module _ {w h : ℕ} {objects : List (Option Object)} {groups : List (List (ℕ × ℤ))} {ties : Ties} (whole : IsWhole (record { w = w; h = h; objects = objects; groups = groups }) ties) where
-  clipper_is : (id : ℕ) (p : Object) → of_id objects id ≡ Some p → clipper_at (get ties) id ≡ p.clipper
-  clipper_is id p there = ap (option_and_then (λ tie. tie.clipper)) (whole.tied id ∙ ap (option_map tie_of) there)
-
-  parent_is : (id : ℕ) (p : Object) → of_id objects id ≡ Some p → parent_at (get ties) id ≡ p.parent
-  parent_is id p there = ap (option_and_then (λ tie. tie.parent)) (whole.tied id ∙ ap (option_map tie_of) there)
-
   -- what counts none clips nobody
   none_clipped : (id n : ℕ) → Counts (clipper_at (get ties)) id n → n ≡ 0 → (ids : List ℕ) → filter (is_clipped_by id) (filter_map (of_id objects) ids) ≡ []
   none_clipped id n counts none [] = refl
@@ -156,7 +143,7 @@ module _ {w h : ℕ} {objects : List (Option Object)} {groups : List (List (ℕ 
       go (Some p) e later = pick (is_clipped_by id p) refl
         where
           pick : (b : Bool) → is_clipped_by id p ≡ b → (if b then p ∷ filter (is_clipped_by id) (filter_map (of_id objects) ids) else filter (is_clipped_by id) (filter_map (of_id objects) ids)) ≡ []
-          pick true f = absurd (Counts-none (clipper_at (get ties)) id (subst (Counts (clipper_at (get ties)) id) none counts) x (clipper_is x p e ∙ clipper_of id p f))
+          pick true f = absurd (Counts-none (clipper_at (get ties)) id (subst (Counts (clipper_at (get ties)) id) none counts) x (clipper_is whole x p e ∙ clipper_of id p f))
           pick false f = later
 
   pub none_clipped_by : (id n : ℕ) → Counts (clipper_at (get ties)) id n → n ≡ 0 → (o : Object) → of_id objects id ≡ Some o → clipped_by (record { w = w; h = h; objects = objects; groups = groups }) o ≡ []
@@ -172,13 +159,9 @@ module _ {w h : ℕ} {objects : List (Option Object)} {groups : List (List (ℕ 
     -- what has a clipper is its sibling
     among : (q : ℕ) (p : Object) → of_id objects q ≡ Some p → (b : Bool) → is_clipped_by o.id p ≡ b → (has (siblings groups o.parent) q && b) ≡ b
     among q p at true f =
-        let same : o.parent ≡ p.parent = sym (parent_is o.id o there) ∙ sound.siblings q o.id (clipper_is q p at ∙ clipper_of o.id p f) ∙ parent_is q p at in
-        ap (λ b. b && true) (has_sibling (group groups o.parent) q p.layer (ap (λ parent. layer_in (group groups parent) q) same ∙ stands_in whole q p at))
-    among q p at false f = and_false (has (siblings groups o.parent) q)
-      where
-        and_false : (b : Bool) → (b && false) ≡ false
-        and_false true = refl
-        and_false false = refl
+        let same : o.parent ≡ p.parent = sym (parent_is whole o.id o there) ∙ sound.siblings q o.id (clipper_is whole q p at ∙ clipper_of o.id p f) ∙ parent_is whole q p at in
+        ap (λ b. b && true) (has-Has _ q (has_layer (group groups o.parent) q p.layer (ap (λ parent. layer_in (group groups parent) q) same ∙ stands_in whole q p at)))
+    among q p at false f = and_right (has (siblings groups o.parent) q) false refl
 
     -- new states of all that it clips, put at their ids
     pub spread_released : (q : ℕ) → of_id (spread (map (apply (change.Clip None)) (clipped_by board o)) objects) q ≡ option_map (unclipped o.id) (of_id objects q)

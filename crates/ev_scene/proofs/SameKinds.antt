@@ -1,5 +1,6 @@
 -- An edit that deletes nothing leaves each object there, and of its kind.
 use Rattle.std.proofs.Common.{◌≡◌, ℕ, suc, ◌+◌, ◌-ℤ◌, ℤ, ◌==◌, arith, List, [], ◌∷◌, Bool, true, false, cond, find, if◌then◌else◌, Option, Some, None, Result, Ok, Err, length, refl, ap, subst, sym, ◌∙◌}
+use Rattle.std.specs.Prelude.{nat_eq}
 use Rattle.std.specs.Option.{option_map, option_map_or, option_eq}
 use Rattle.std.proofs.lemmas.Option.{none-some}
 use Rattle.std.proofs.Math.Bool.{true≢false}
@@ -12,7 +13,7 @@ use Rattle.ev_model.specs.declared.content.Kind.{Kind}
 use Rattle.ev_model.specs.declared.object.Object.{Object}
 use Rattle.ev_model.specs.declared.refusal.Refusal.{Refusal}
 use Rattle.ev_links.specs.Ties.{has}
-use Rattle.ev_scene.specs.Slots.{of_id, live}
+use Rattle.ev_scene.specs.Slots.{of_id, put, live}
 use Rattle.ev_scene.specs.Board.{Board, Kept, board, named, inside, is_named}
 use Rattle.ev_scene.specs.Cast.{IsCast, kept_of, board_of}
 use Rattle.ev_scene.specs.Change.{apply, fresh, color_of, fill_of, border_of}
@@ -31,16 +32,9 @@ kind_in x = option_map (λ o. kind_of o.content) x
 
 -- a change leaves the kind
 change_kind : (c : Change) (o : Object) → kind_of (apply c o).content ≡ kind_of o.content
-change_kind (change.Place x y) o = refl
-change_kind (change.Side w h) o = refl
-change_kind (change.Appear on) o = refl
-change_kind (change.Paint color) o = refl
-change_kind (change.Treat op) o = refl
-change_kind (change.Lift layer) o = refl
 change_kind (change.Draw d) o = drawn_kind d o.content
 change_kind (change.Write w) o = written_kind w o.content
-change_kind (change.Clip clipper) o = refl
-change_kind (change.Enter parent) o = refl
+change_kind other o = refl
 
 -- where each object stands under its id, so does the object of a name
 stands_at : (objects : List (Option Object)) → ((id : ℕ) (o : Object) → of_id objects id ≡ Some o → o.id ≡ id) → (j : ℕ) (o : Object) → at_place objects j ≡ Some o → of_id objects o.id ≡ Some o
@@ -57,15 +51,19 @@ found_at test (Some x ∷ slots) o e = go (test x) e (found_at test slots o) whe
 pub named_own : (objects : List (Option Object)) → ((id : ℕ) (o : Object) → of_id objects id ≡ Some o → o.id ≡ id) → (name : List ℕ) (o : Object) → named objects name ≡ Some o → of_id objects o.id ≡ Some o
 named_own objects own name o e = let found = found_at (is_named name) objects o e in stands_at objects own found.0 o found.1
 
+-- an object that is changed where it stands keeps its kind
+pub keeps_put : (scene : Board) (c : Change) (id : ℕ) (o : Object) → of_id scene.objects id ≡ Some o → KeepsKinds scene (record scene { objects = put scene.objects id (Some (apply c o)) })
+keeps_put scene c id o at other kind is = ap kind_in (of_id_put scene.objects id other o (Some (apply c o)) at) ∙ go (other == id) refl where
+  same : (other == id) ≡ true → other ≡ id
+  same e = grind arith
+
+  go : (t : Bool) → (other == id) ≡ t → kind_in (cond t (Some (apply c o)) (of_id scene.objects other)) ≡ Some kind
+  go true e = ap Some (change_kind c o) ∙ sym (ap kind_in at) ∙ ap (λ id. kind_at scene id) (sym (same e)) ∙ is
+  go false e = is
+
 module _ (scene : Board) (own : (name : List ℕ) (o : Object) → named scene.objects name ≡ Some o → of_id scene.objects o.id ≡ Some o) where
   keeps_changed : (c : Change) (o : Object) → of_id scene.objects o.id ≡ Some o → KeepsKinds scene (changed c scene o)
-  keeps_changed c o at other kind is = ap kind_in (of_id_put scene.objects o.id other o (Some (apply c o)) at) ∙ go (other == o.id) refl where
-    same : (other == o.id) ≡ true → other ≡ o.id
-    same e = grind arith
-
-    go : (t : Bool) → (other == o.id) ≡ t → kind_in (cond t (Some (apply c o)) (of_id scene.objects other)) ≡ Some kind
-    go true e = ap Some (change_kind c o) ∙ sym (ap kind_in at) ∙ ap (λ id. kind_at scene id) (sym (same e)) ∙ is
-    go false e = is
+  keeps_changed c o at = keeps_put scene c o.id o at
 
   keeps_named : (name : List ℕ) (make : Object → Board) → ((o : Object) → of_id scene.objects o.id ≡ Some o → KeepsKinds scene (make o)) → KeepsKinds scene (with_named scene name make)
   keeps_named name make each = go (named scene.objects name) (own name) where
@@ -93,7 +91,7 @@ module _ (scene : Board) (own : (name : List ℕ) (o : Object) → named scene.o
     go false = keeps_changed (change.Place x y) o at
 
   keeps_homed : (parent : Option ℕ) (o : Object) → of_id scene.objects o.id ≡ Some o → KeepsKinds scene (homed parent scene o)
-  keeps_homed parent o at = go (option_eq ◌==◌ o.parent parent) where
+  keeps_homed parent o at = go (option_eq nat_eq o.parent parent) where
     go : (b : Bool) → KeepsKinds scene (if b then scene else rehomed parent scene o)
     go true = λ id kind is. is
     go false = keeps_changed (change.Enter parent) o at

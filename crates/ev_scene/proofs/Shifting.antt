@@ -1,5 +1,6 @@
 -- Objects that move together.
 use Rattle.std.proofs.Common.{◌≡◌, ℕ, zero, suc, ℤ, pos, ◌+ℤ◌, ◌+◌, ◌<◌, ◌≤◌, Bool, true, false, ◌&&◌, ◌==◌, List, [], ◌∷◌, ◌++◌, All, length, get_or, map, filter_map, drop, Option, Some, None, if◌then◌else◌, refl, sym, ap, ap₂, ◌∙◌, subst, arith, append_assoc}
+use Rattle.std.proofs.lemmas.Bool.{and_parts}
 use Rattle.std.specs.List.{cons_option, list_all}
 use Rattle.std.specs.Option.{option_map, option_and_then, option_to_list}
 use Rattle.std.proofs.Math.Bool.{true≢false}
@@ -25,15 +26,10 @@ use Rattle.ev_scene.proofs.Capturing.{all_done}
 use Rattle.ev_scene.proofs.Spreading.{spread_at, length-spread, listed_stand, has_listed}
 use Rattle.ev_scene.proofs.Standing.{IsSameStand}
 
--- both halves of a test
-pub both : (a b : Bool) → (a && b) ≡ true → (a ≡ true) × (b ≡ true)
-both true b e = (refl, e)
-both false b e = absurd (true≢false (sym e))
-
 module _ {A : Type 0} (test : A → Bool) where
   -- what is there passes
   pub one_passes : (slot : Option A) (x : A) → Some x ≡ slot → list_all test (option_to_list slot) ≡ true → test x ≡ true
-  one_passes slot x e h = (both (test x) true (ap (λ slot. list_all test (option_to_list slot)) e ∙ h)).0
+  one_passes slot x e h = (and_parts (test x) true (ap (λ slot. list_all test (option_to_list slot)) e ∙ h)).0
 
   pub cons_passes : (slot : Option A) (rest : List A) → list_all test (cons_option slot rest) ≡ (list_all test (option_to_list slot) && list_all test rest)
   cons_passes None rest = refl
@@ -73,7 +69,7 @@ module _ (dx dy : ℤ) (states states' : List (Option (Held Object))) (ids : Lis
   pub still_may : list_all (may_shift dx dy) (filter_map (of_id (values_of states)) (drop i ids)) ≡ true
       → (list_all (may_shift dx dy) (option_to_list (of_id (values_of states') (get_or ids i 0))) ≡ true) × (list_all (may_shift dx dy) (filter_map (of_id (values_of states)) (drop (i + 1) ids)) ≡ true)
   still_may may =
-      let halves = both _ _ (sym (next_passes (may_shift dx dy) (of_id (values_of states)) ids i 0 low) ∙ may) in
+      let halves = and_parts _ _ (sym (next_passes (may_shift dx dy) (of_id (values_of states)) ids i 0 low) ∙ may) in
       (ap (λ states. list_all (may_shift dx dy) (option_to_list (of_id (values_of states) (get_or ids i 0)))) same ∙ halves.0, halves.1)
 
   pub one_more_shifted : (items items' : List (Held Object)) (all : List Object) → map value_of items' ≡ map value_of items ++ map (shifted_by dx dy) (option_to_list (of_id (values_of states') (get_or ids i 0)))

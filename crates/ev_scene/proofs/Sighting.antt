@@ -1,6 +1,7 @@
 -- The way up of an object, and what its objects leave to those below.
 use Rattle.std.proofs.Common.{◌≡◌, ◌⊎◌, ◌↔◌, ℕ, zero, suc, ◌+◌, ◌<◌, ℤ, pos, ◌≤ℤ◌, int_lt, Bool, true, false, ◌&&◌, ◌==◌, nat_eq, All, if◌then◌else◌, List, [], ◌∷◌, ◌++◌, length, fold, get_or, Option, Some, None, refl, sym, ap, ap₂, ◌∙◌, subst, inl, inr, arith}
 use Rattle.std.proofs.Math.Bool.{true≢false}
+use Rattle.std.proofs.lemmas.Bool.{and_parts, eqb-true}
 use Rattle.std.proofs.lemmas.Int.{ints}
 use Rattle.std.specs.Prelude.{IsTrue}
 use Rattle.std.specs.List.{list_all}
@@ -107,13 +108,6 @@ mul_whole x y h e = ap (mul x) e ∙ whole where
   whole : mul x 255 ≡ x
   whole = omega (arith, h)
 
-both : (a b : Bool) → (a && b) ≡ true → (a ≡ true) × (b ≡ true)
-both true b h = (refl, h)
-both false b h = cc
-
-same_number : (x y : ℕ) → (x == y) ≡ true → x ≡ y
-same_number x y h = grind (arith, nat_tests)
-
 same_color : (c d : Argb) → c.a ≡ d.a → c.r ≡ d.r → c.g ≡ d.g → c.b ≡ d.b → c ≡ d
 same_color c d a r g b =
     let make : ℕ → ℕ → ℕ → ℕ → Argb = λ a r g b. record { a = a; r = r; g = g; b = b } in
@@ -122,10 +116,10 @@ same_color c d a r g b =
 -- white changes nothing
 tint_white : (c w : Argb) → IsColor c → is_white w ≡ true → tint c w ≡ c
 tint_white c w is h =
-    let three = both _ _ h in
-    let two = both _ _ three.0 in
-    let one = both _ _ two.0 in
-    same_color (tint c w) c (mul_whole c.a w.a is.a (same_number _ _ one.0)) (mul_whole c.r w.r is.r (same_number _ _ one.1)) (mul_whole c.g w.g is.g (same_number _ _ two.1)) (mul_whole c.b w.b is.b (same_number _ _ three.1))
+    let three = and_parts _ _ h in
+    let two = and_parts _ _ three.0 in
+    let one = and_parts _ _ two.0 in
+    same_color (tint c w) c (mul_whole c.a w.a is.a (eqb-true _ _ one.0)) (mul_whole c.r w.r is.r (eqb-true _ _ one.1)) (mul_whole c.g w.g is.g (eqb-true _ _ two.1)) (mul_whole c.b w.b is.b (eqb-true _ _ three.1))
 
 module _ (s : Stage) (id : ℕ) (u : Object) (sight : Sight) (step : IsStep s.objects id u) (is : IsSight s (over u) sight) where
   longer : length (way s.objects (Some id)) ≡ suc (length (way s.objects (over u)))

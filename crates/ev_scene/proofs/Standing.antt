@@ -44,16 +44,10 @@ use Rattle.ev_scene.proofs.Places.{of_id_suc, of_id_put, of_id_end, some_choice,
 
 -- a look is in range
 pub look_fits : (c : Change) → IsLook c → IsFit c
-look_fits (change.Place x y) look = look
-look_fits (change.Side w h) look = look
-look_fits (change.Appear on) look = look
-look_fits (change.Paint color) look = look
-look_fits (change.Treat op) look = look
-look_fits (change.Draw d) look = look
-look_fits (change.Write w) look = look
 look_fits (change.Lift layer) look = absurd look
 look_fits (change.Clip clipper) look = absurd look
 look_fits (change.Enter parent) look = absurd look
+look_fits other look = look
 
 -- a look leaves all that ties and places an object
 pub record IsSameStand (o o' : Object) : Type 0 where
@@ -65,42 +59,26 @@ pub record IsSameStand (o o' : Object) : Type 0 where
 
 -- another way to draw leaves the kind, and keeps the limits
 pub drawn_kind : (d : Drawing) (content : Content) → kind_of (drawn d content) ≡ kind_of content
-drawn_kind d content.Rect = refl
-drawn_kind d content.Smart = refl
 drawn_kind d (content.Image part) = refl
-drawn_kind d (content.Text part) = refl
+drawn_kind d other = refl
 
 drawn_limits : (d : Drawing) (content : Content) → IsDrawing d → IsContent content → IsContent (drawn d content)
-drawn_limits d content.Rect fits old = old
-drawn_limits d content.Smart fits old = old
+drawn_limits d (content.Text part) fits old = old
 drawn_limits (drawing.Fill fill) (content.Image part) fits old = (fits, old.1)
 drawn_limits (drawing.Border border) (content.Image part) fits old = (old.0, fits)
-drawn_limits (drawing.Center on) (content.Image part) fits old = old
-drawn_limits (drawing.File key) (content.Image part) fits old = old
-drawn_limits (drawing.Load loaded) (content.Image part) fits old = old
-drawn_limits d (content.Text part) fits old = old
+drawn_limits d other fits old = old
 
 -- another text or font leaves the kind, and keeps the limits
 pub written_kind : (w : Writing) (content : Content) → kind_of (written w content) ≡ kind_of content
-written_kind w content.Rect = refl
-written_kind w content.Smart = refl
-written_kind w (content.Image part) = refl
 written_kind w (content.Text part) = refl
+written_kind w other = refl
 
 written_limits : (w : Writing) (content : Content) → IsWriting w → IsContent content → IsContent (written w content)
-written_limits w content.Rect fits old = old
-written_limits w content.Smart fits old = old
 written_limits w (content.Image part) fits old = old
-written_limits (writing.Font key) (content.Text part) fits old = old
-written_limits (writing.Load loaded) (content.Text part) fits old = old
 written_limits (writing.Say text) (content.Text part) fits old = fits
+written_limits w other fits old = old
 
 pub look_stands : (c : Change) (o : Object) → IsLook c → IsSameStand o (apply c o)
-look_stands (change.Place x y) o look = record { id = refl; layer = refl; parent = refl; tie = refl; limits = λ l. record { layer_low = l.layer_low; layer_high = l.layer_high; content = l.content } }
-look_stands (change.Side w h) o look = record { id = refl; layer = refl; parent = refl; tie = refl; limits = λ l. record { layer_low = l.layer_low; layer_high = l.layer_high; content = l.content } }
-look_stands (change.Appear on) o look = record { id = refl; layer = refl; parent = refl; tie = refl; limits = λ l. record { layer_low = l.layer_low; layer_high = l.layer_high; content = l.content } }
-look_stands (change.Paint color) o look = record { id = refl; layer = refl; parent = refl; tie = refl; limits = λ l. record { layer_low = l.layer_low; layer_high = l.layer_high; content = l.content } }
-look_stands (change.Treat op) o look = record { id = refl; layer = refl; parent = refl; tie = refl; limits = λ l. record { layer_low = l.layer_low; layer_high = l.layer_high; content = l.content } }
 look_stands (change.Draw d) o look = record {
   id = refl;
   layer = refl;
@@ -118,12 +96,18 @@ look_stands (change.Write w) o look = record {
 look_stands (change.Lift layer) o look = absurd look
 look_stands (change.Clip clipper) o look = absurd look
 look_stands (change.Enter parent) o look = absurd look
+look_stands other o look = record { id = refl; layer = refl; parent = refl; tie = refl; limits = λ l. record { layer_low = l.layer_low; layer_high = l.layer_high; content = l.content } }
 
 layer_low : (layer : ℤ) → is_layer layer ≡ true → neg_ℤ (pos 32768) ≤ℤ layer
 layer_low layer h = grind (arith, ints)
 
 layer_high : (layer : ℤ) → is_layer layer ≡ true → layer ≤ℤ pos 32767
 layer_high layer h = grind (arith, ints)
+
+-- a function of a choice
+at_choice : {A B : Type 0} (f : A → B) (b : Bool) (x y : A) → f (if b then x else y) ≡ (if b then f x else f y)
+at_choice f true x y = refl
+at_choice f false x y = refl
 
 -- one entry of a list in place of another
 pub get_set : {A : Type 0} (xs : List A) (k j : ℕ) (x y : A) → k < length xs → get_or (slice_set xs k x) j y ≡ (if j == k then x else get_or xs j y)
@@ -138,10 +122,6 @@ get_put_tie : (ties : Ties) (id : ℕ) (tie : Tie) (q : ℕ) → get (put_tie ti
 get_put_tie ties id tie q = get-insert nat_cmp_total ties id tie q ∙ ap (λ b. if b then Some tie else get ties q) (same_test q id)
 
 module _ {w h : ℕ} {objects : List (Option Object)} {groups : List (List (ℕ × ℤ))} {ties : Ties} (whole : IsWhole (record { w = w; h = h; objects = objects; groups = groups }) ties) where
-  -- other sides
-  pub resized : (w' h' : ℕ) → 1 ≤ w' → w' ≤ 4096 → 1 ≤ h' → h' ≤ 4096 → IsWhole (record { w = w'; h = h'; objects = objects; groups = groups }) ties
-  resized w' h' a b c d = record { w_low = a; w_high = b; h_low = c; h_high = d; own = whole.own; limits = whole.limits; stands = whole.stands; grouped = whole.grouped; tied = whole.tied }
-
   -- each object that is there stands in the group of its parent
   pub stands_in : (id : ℕ) (o : Object) → of_id objects id ≡ Some o → layer_in (group groups o.parent) id ≡ Some o.layer
   stands_in id o there =
@@ -178,16 +158,10 @@ module _ {w h : ℕ} {objects : List (Option Object)} {groups : List (List (ℕ 
         (λ e f. let same : q ≡ id = grind (arith, nat_tests, e) in subst (λ q. P q t) (sym same) (subst (λ t. P id t) (same_Some _ _ f) new)) (λ e f. old q t f)
 
     mapped : {B : Type 0} (f : Object → Option B) (q : ℕ) → option_and_then f (of_id (put objects id (Some o')) q) ≡ (if q == id then f o' else option_and_then f (of_id objects q))
-    mapped f q = ap (option_and_then f) (of_id_put objects id q o (Some o') there) ∙ choice (q == id) where
-      choice : (b : Bool) → option_and_then f (if b then Some o' else of_id objects q) ≡ (if b then f o' else option_and_then f (of_id objects q))
-      choice true = refl
-      choice false = refl
+    mapped f q = ap (option_and_then f) (of_id_put objects id q o (Some o') there) ∙ at_choice (option_and_then f) (q == id) (Some o') (of_id objects q)
 
     tied_map : (f : Object → Tie) (q : ℕ) → option_map f (of_id (put objects id (Some o')) q) ≡ (if q == id then Some (f o') else option_map f (of_id objects q))
-    tied_map f q = ap (option_map f) (of_id_put objects id q o (Some o') there) ∙ choice (q == id) where
-      choice : (b : Bool) → option_map f (if b then Some o' else of_id objects q) ≡ (if b then Some (f o') else option_map f (of_id objects q))
-      choice true = refl
-      choice false = refl
+    tied_map f q = ap (option_map f) (of_id_put objects id q o (Some o') there) ∙ at_choice (option_map f) (q == id) (Some o') (of_id objects q)
 
     pub replaced : (groups' : List (List (ℕ × ℤ))) (ties' : Ties) → length groups' ≡ length groups
         → ((at q : ℕ) → layer_in (get_or groups' at []) q ≡ (if q == id then layer_at at o' else layer_in (get_or groups at []) q))
@@ -439,16 +413,10 @@ module _ {w h : ℕ} {objects : List (Option Object)} {groups : List (List (ℕ 
           (λ e f. let same : q ≡ id = grind (arith, nat_tests, e) in subst (λ q. P q t) (sym same) (subst (λ t. P id t) (same_Some _ _ f) new)) (λ e f. old q t f)
 
       mapped : {B : Type 0} (f : Object → Option B) (q : ℕ) → option_and_then f (of_id (objects ++ Some o ∷ []) q) ≡ (if q == id then f o else option_and_then f (of_id objects q))
-      mapped f q = ap (option_and_then f) (end_of q) ∙ choice (q == id) where
-        choice : (b : Bool) → option_and_then f (if b then Some o else of_id objects q) ≡ (if b then f o else option_and_then f (of_id objects q))
-        choice true = refl
-        choice false = refl
+      mapped f q = ap (option_and_then f) (end_of q) ∙ at_choice (option_and_then f) (q == id) (Some o) (of_id objects q)
 
       tied_map : (q : ℕ) → option_map tie_of (of_id (objects ++ Some o ∷ []) q) ≡ (if q == id then Some (tie_of o) else option_map tie_of (of_id objects q))
-      tied_map q = ap (option_map tie_of) (end_of q) ∙ choice (q == id) where
-        choice : (b : Bool) → option_map tie_of (if b then Some o else of_id objects q) ≡ (if b then Some (tie_of o) else option_map tie_of (of_id objects q))
-        choice true = refl
-        choice false = refl
+      tied_map q = ap (option_map tie_of) (end_of q) ∙ at_choice (option_map tie_of) (q == id) (Some o) (of_id objects q)
 
       get_end : (xs : List (List (ℕ × ℤ))) (at : ℕ) → get_or (xs ++ [] ∷ []) at [] ≡ get_or xs at []
       get_end [] zero = refl
@@ -528,9 +496,7 @@ made_to states {groups = groups} {ties = ties} whole states' s name kind id grou
 
     fresh_tie : (id : ℕ) (name : List ℕ) (kind : Kind) → tie_of (fresh id name kind) ≡ alone kind
     fresh_tie id name Rect = refl
-    fresh_tie id name Smart = refl
-    fresh_tie id name Image = refl
-    fresh_tie id name Text = refl
+    fresh_tie id name other = refl
 
 pub next_of : (states : List (Option (Held Object))) (id : ℕ) → id ≡ length states + 1 → id ≡ length (values_of states) + 1
 next_of states id next = next ∙ ap (λ n. n + 1) (sym (length-map states (λ slot. option_map value_of slot)))

@@ -36,7 +36,7 @@ use Rattle.ev_scene.proofs.Nesting as nest
 use Rattle.ev_scene.proofs.Ways as way
 
 -- the ids of siblings are those that have a layer
-has_layer : (xs : List (ℕ × ℤ)) (id : ℕ) (layer : ℤ) → layer_in xs id ≡ Some layer → Has id (ids_of xs)
+pub has_layer : (xs : List (ℕ × ℤ)) (id : ℕ) (layer : ℤ) → layer_in xs id ≡ Some layer → Has id (ids_of xs)
 has_layer [] id layer e = absurd (none-some layer e)
 has_layer (one ∷ xs) id layer e = elim (eqb_tells one.0 id) [ inl same ↦ inl same.1 | inr differ ↦ inr (has_layer xs id layer (rw differ.0 at e)) ]
 
@@ -110,18 +110,18 @@ some_mapped : {A B : Type 0} (f : A → B) (o : Option A) → is_some (option_ma
 some_mapped f None e = absurd (true≢false (sym e))
 some_mapped f (Some x) e = refl
 
+some_there : {A : Type 0} (o : Option A) → is_some o ≡ true → (x : A) × (o ≡ Some x)
+some_there None e = absurd (true≢false (sym e))
+some_there (Some x) e = (x, refl)
+
 -- only smart objects are of the kind of those
 smart_kind : (c : Content) → kind_of c ≡ kind.Smart → is_smart_content c ≡ true
-smart_kind content.Rect e = cc
 smart_kind content.Smart e = refl
-smart_kind (content.Image part) e = cc
-smart_kind (content.Text part) e = cc
+smart_kind other e = cc
 
 never_rect : (c : Content) → is_smart_content c ≡ true → kind_of c ≡ kind.Rect → ⊥
 never_rect content.Rect s e = true≢false (sym s)
-never_rect content.Smart s e = cc
-never_rect (content.Image part) s e = cc
-never_rect (content.Text part) s e = cc
+never_rect other s e = cc
 
 module _ {w h : ℕ} {objects : List (Option Object)} {groups : List (List (ℕ × ℤ))} {ties : Ties} (whole : IsWhole (record { w = w; h = h; objects = objects; groups = groups }) ties) where
   abbrev is_there : ℕ → Bool
@@ -129,6 +129,9 @@ module _ {w h : ℕ} {objects : List (Option Object)} {groups : List (List (ℕ 
 
   abbrev board : Board
   board = record { w = w; h = h; objects = objects; groups = groups }
+
+  object_of : (id : ℕ) → is_there id ≡ true → (o : Object) × (of_id objects id ≡ Some o)
+  object_of id there = some_there (of_id objects id) there
 
   -- the objects that are there, found by their ids
   pub live_found : (id : ℕ) → with_id (live objects) id ≡ of_id objects id
@@ -145,18 +148,19 @@ module _ {w h : ℕ} {objects : List (Option Object)} {groups : List (List (ℕ 
         let own : p.id ≡ suc j = whole.own (suc j) p (of_id_suc objects j ∙ at) in
         grind (arith, nat_tests))
 
+  -- what the ties say of an object that is there
+  pub parent_is : (id : ℕ) (o : Object) → of_id objects id ≡ Some o → parent_at (get ties) id ≡ o.parent
+  parent_is id o there = ap (option_and_then (λ tie. tie.parent)) (whole.tied id ∙ ap (option_map tie_of) there)
+
+  pub clipper_is : (id : ℕ) (o : Object) → of_id objects id ≡ Some o → clipper_at (get ties) id ≡ o.clipper
+  clipper_is id o there = ap (option_and_then (λ tie. tie.clipper)) (whole.tied id ∙ ap (option_map tie_of) there)
+
+  kind_is : (id : ℕ) (o : Object) → of_id objects id ≡ Some o → kind_at (get ties) id ≡ Some (kind_of o.content)
+  kind_is id o there = ap (option_and_then (λ tie. Some tie.kind)) (whole.tied id ∙ ap (option_map tie_of) there)
+
   module _ (sound : IsSound (get ties)) where
     abbrev over : ℕ → Option ℕ
     over = parent_at (get ties)
-
-    parent_is : (id : ℕ) (o : Object) → of_id objects id ≡ Some o → over id ≡ o.parent
-    parent_is id o there = ap (option_and_then (λ tie. tie.parent)) (whole.tied id ∙ ap (option_map tie_of) there)
-
-    clipper_is : (id : ℕ) (o : Object) → of_id objects id ≡ Some o → clipper_at (get ties) id ≡ o.clipper
-    clipper_is id o there = ap (option_and_then (λ tie. tie.clipper)) (whole.tied id ∙ ap (option_map tie_of) there)
-
-    kind_is : (id : ℕ) (o : Object) → of_id objects id ≡ Some o → kind_at (get ties) id ≡ Some (kind_of o.content)
-    kind_is id o there = ap (option_and_then (λ tie. Some tie.kind)) (whole.tied id ∙ ap (option_map tie_of) there)
 
     there_too : (id : ℕ) → is_some (get ties id) ≡ true → is_there id ≡ true
     there_too id e = some_mapped tie_of (of_id objects id) (sym (ap is_some (whole.tied id)) ∙ e)
@@ -165,17 +169,13 @@ module _ {w h : ℕ} {objects : List (Option Object)} {groups : List (List (ℕ 
     known q to e = there_too to (parent_there (get ties) sound q to e)
 
     there_tied : (id : ℕ) → is_there id ≡ true → is_some (get ties id) ≡ true
-    there_tied id there = go (of_id objects id) refl there where
-      go : (f : Option Object) → of_id objects id ≡ f → is_some f ≡ true → is_some (get ties id) ≡ true
-      go None e t = absurd (true≢false (sym t))
-      go (Some o) e t = ap is_some (whole.tied id ∙ ap (option_map tie_of) e)
+    there_tied id there = let found = object_of id there in ap is_some (whole.tied id ∙ ap (option_map tie_of) found.1)
 
     -- what stands in what
     stands : (x : ℕ) → is_there x ≡ true → Has x (siblings groups (over x))
-    stands x there = go (of_id objects x) refl there where
-      go : (f : Option Object) → of_id objects x ≡ f → is_some f ≡ true → Has x (siblings groups (over x))
-      go None e t = absurd (true≢false (sym t))
-      go (Some o) e t = subst (λ p. Has x (siblings groups p)) (sym (parent_is x o e)) (has_layer (group groups o.parent) x o.layer (stands_in whole x o e))
+    stands x there =
+        let found = object_of x there in let o = found.0 in
+        subst (λ p. Has x (siblings groups p)) (sym (parent_is x o found.1)) (has_layer (group groups o.parent) x o.layer (stands_in whole x o found.1))
 
     same_place : (a b : Option ℕ) → nest.IsParent is_there a → nest.IsParent is_there b → place a ≡ place b → a ≡ b
     same_place None None p q e = refl
@@ -187,26 +187,26 @@ module _ {w h : ℕ} {objects : List (Option Object)} {groups : List (List (ℕ 
     parent_there_too x None e = tt
     parent_there_too x (Some q) e = known x q e
 
-    at_place_of : (at : ℕ) (o : Object) → is_some (layer_at at o) ≡ true → place o.parent ≡ at
-    at_place_of at o t = elim (eqb_tells (place o.parent) at) [ inl same ↦ same.1 | inr differ ↦ absurd (true≢false (sym (rw differ.0 at t))) ]
+    -- who stands in the group at a place is an object whose parent has that place
+    member_at : (at x : ℕ) → Has x (ids_of (get_or groups at [])) → (o : Object) × ((of_id objects x ≡ Some o) × (place o.parent ≡ at))
+    member_at at x h = go (of_id objects x) refl (sym (ap is_some (whole.stands at x)) ∙ layer_of (get_or groups at []) x h) where
+      go : (f : Option Object) → of_id objects x ≡ f → is_some (option_and_then (layer_at at) f) ≡ true → (o : Object) × ((of_id objects x ≡ Some o) × (place o.parent ≡ at))
+      go None e t = absurd (true≢false (sym t))
+      go (Some o) e t = (o, (e, elim (eqb_tells (place o.parent) at) [ inl same ↦ same.1 | inr differ ↦ absurd (true≢false (sym (rw differ.0 at t))) ]))
 
     members : (x : ℕ) (parent : Option ℕ) → nest.IsParent is_there parent → Has x (siblings groups parent) → (over x ≡ parent) × (is_there x ≡ true)
-    members x parent is h = go (of_id objects x) refl (sym (ap is_some (whole.stands (place parent) x)) ∙ layer_of (group groups parent) x h) where
-      go : (f : Option Object) → of_id objects x ≡ f → is_some (option_and_then (layer_at (place parent)) f) ≡ true → (over x ≡ parent) × (is_there x ≡ true)
-      go None e t = absurd (true≢false (sym t))
-      go (Some o) e t =
-          let its : over x ≡ o.parent = parent_is x o e in
-          (its ∙ same_place o.parent parent (parent_there_too x o.parent its) is (at_place_of (place parent) o t), ap is_some e)
+    members x parent is h =
+        let found = member_at (place parent) x h in let o = found.0 in
+        let its : over x ≡ o.parent = parent_is x o found.1.0 in
+        (its ∙ same_place o.parent parent (parent_there_too x o.parent its) is found.1.1, ap is_some found.1.0)
 
     -- there are more objects than a way has
     fits : (x : ℕ) (ids : List ℕ) → is_there x ≡ true → IsWay over x ids → length ids < length (live objects)
-    fits x ids there p = go (of_id objects x) refl there where
-      go : (f : Option Object) → of_id objects x ≡ f → is_some f ≡ true → length ids < length (live objects)
-      go None e t = absurd (true≢false (sym t))
-      go (Some o) e t =
-          let own : o.id ≡ x = whole.own x o e in
-          way.shorter_than_all (live objects) (λ o. o.parent) over (λ o there. parent_is o.id o (sym (live_found o.id) ∙ there)) (λ q to e. ap is_some (live_found to) ∙ known q to e)
-          o ids (live_found o.id ∙ ap (of_id objects) own ∙ e) (subst (λ n. IsWay over n ids) (sym own) p)
+    fits x ids there p =
+        let found = object_of x there in let o = found.0 in
+        let own : o.id ≡ x = whole.own x o found.1 in
+        way.shorter_than_all (live objects) (λ o. o.parent) over (λ o there. parent_is o.id o (sym (live_found o.id) ∙ there)) (λ q to e. ap is_some (live_found to) ∙ known q to e)
+        o ids (live_found o.id ∙ ap (of_id objects) own ∙ found.1) (subst (λ n. IsWay over n ids) (sym own) p)
 
     along : (id : ℕ) → (ids : List ℕ) × IsWay over id ids
     along id = parents_end (get ties) sound id
@@ -225,14 +225,10 @@ module _ {w h : ℕ} {objects : List (Option Object)} {groups : List (List (ℕ 
 
     -- in what is not there nothing stands
     none_in : (k x : ℕ) → of_id objects (suc k) ≡ None → ¬ Has x (siblings groups (Some (suc k)))
-    none_in k x gone h = go (of_id objects x) refl (sym (ap is_some (whole.stands (suc k) x)) ∙ layer_of (group groups (Some (suc k))) x h) where
+    none_in k x gone h = let found = member_at (suc k) x h in led found.0.parent (parent_is x found.0 found.1.0) found.1.1 where
       led : (p : Option ℕ) → over x ≡ p → place p ≡ suc k → ⊥
       led None e at = absurd (omega (arith, at))
       led (Some q) e at = true≢false (sym (known x q e) ∙ ap is_there at ∙ ap is_some gone)
-
-      go : (f : Option Object) → of_id objects x ≡ f → is_some (option_and_then (layer_at (suc k)) f) ≡ true → ⊥
-      go None e t = true≢false (sym t)
-      go (Some o) e t = led o.parent (parent_is x o e) (at_place_of (suc k) o t)
 
     -- where those that stand together in the order are an order, all are
     pub all_orders : stack.IsOrder (group groups None) → ((id : ℕ) → Has id (ids_in board None) → stack.IsOrder (group groups (Some id))) → (at : ℕ) → stack.IsOrder (get_or groups at [])
@@ -247,19 +243,15 @@ module _ {w h : ℕ} {objects : List (Option Object)} {groups : List (List (ℕ 
       pub listed_once : IsDistinct (ids_in board None)
       listed_once = nest.stands_once (siblings groups) over is_there known stands members along (λ parent. distinct_ids (group groups parent) (once (place parent))) (length (live objects)) None tt
 
-      pub members_once : (q : ℕ) → is_there q ≡ true → IsDistinct (ids_in board (Some q))
-      members_once q there = nest.stands_once (siblings groups) over is_there known stands members along (λ parent. distinct_ids (group groups parent) (once (place parent))) (length (live objects)) (Some q) there
-
     -- the objects of the order, found by their ids
     abbrev listed : List ℕ → List Object
     listed ids = filter_map (of_id objects) ids
 
     listed_ids : (xs : List ℕ) → ((x : ℕ) → Has x xs → is_there x ≡ true) → ids (listed xs) ≡ xs
     listed_ids [] there = refl
-    listed_ids (x ∷ xs) there = go (of_id objects x) refl (there x (inl refl)) (listed_ids xs (λ y h. there y (inr h))) where
-      go : (f : Option Object) → of_id objects x ≡ f → is_some f ≡ true → ids (listed xs) ≡ xs → ids (cons_option f (listed xs)) ≡ x ∷ xs
-      go None e t rest = absurd (true≢false (sym t))
-      go (Some o) e t rest = ap₂ ◌∷◌ (whole.own x o e) rest
+    listed_ids (x ∷ xs) there =
+        let found = object_of x (there x (inl refl)) in
+        ap (λ f. ids (cons_option f (listed xs))) found.1 ∙ ap₂ ◌∷◌ (whole.own x found.0 found.1) (listed_ids xs (λ y h. there y (inr h)))
 
     pub order_once : ((at : ℕ) → stack.IsDistinct (get_or groups at [])) → IsDistinct (ids (stage_of board).objects)
     order_once once = subst IsDistinct (sym (listed_ids (ids_in board None) listed_there)) (listed_once once)
@@ -318,13 +310,11 @@ module _ {w h : ℕ} {objects : List (Option Object)} {groups : List (List (ℕ 
       few_live x there = fits x (along x).0 there (along x).1
 
       few_painted : (x : ℕ) → is_there x ≡ true → length (along x).0 < length painted
-      few_painted x there = go (of_id objects x) refl there where
-        go : (f : Option Object) → of_id objects x ≡ f → is_some f ≡ true → length (along x).0 < length painted
-        go None e t = absurd (true≢false (sym t))
-        go (Some o) e t =
-            let own : o.id ≡ x = whole.own x o e in
-            way.shorter_than_all painted (λ o. o.parent) over (λ o there. parent_is o.id o (sym (order_found o.id) ∙ there)) (λ q to e. ap is_some (order_found to) ∙ known q to e)
-            o (along x).0 (order_found o.id ∙ ap (of_id objects) own ∙ e) (subst (λ n. IsWay over n (along x).0) (sym own) (along x).1)
+      few_painted x there =
+          let found = object_of x there in let o = found.0 in
+          let own : o.id ≡ x = whole.own x o found.1 in
+          way.shorter_than_all painted (λ o. o.parent) over (λ o there. parent_is o.id o (sym (order_found o.id) ∙ there)) (λ q to e. ap is_some (order_found to) ∙ known q to e)
+          o (along x).0 (order_found o.id ∙ ap (of_id objects) own ∙ found.1) (subst (λ n. IsWay over n (along x).0) (sym own) (along x).1)
 
       once_ids : (parent : Option ℕ) → IsDistinct (siblings groups parent)
       once_ids parent = distinct_ids (group groups parent) (once (place parent))
@@ -335,16 +325,15 @@ module _ {w h : ℕ} {objects : List (Option Object)} {groups : List (List (ℕ 
       -- the objects of a parent, by their ids
       members_ids : (parent : Option ℕ) (xs : List ℕ) → ((x : ℕ) → Has x xs → is_there x ≡ true) → ids (order.members (listed xs) parent) ≡ picked parent xs
       members_ids parent [] there = refl
-      members_ids parent (x ∷ xs) there = go (of_id objects x) refl (there x (inl refl)) (members_ids parent xs (λ y h. there y (inr h))) where
-        choice : (b : Bool) (o : Object) (rest : List Object) (rest' : List ℕ) → o.id ≡ x → ids rest ≡ rest' → ids (if b then o ∷ rest else rest) ≡ (if b then x ∷ rest' else rest')
-        choice true o rest rest' own later = ap₂ ◌∷◌ own later
-        choice false o rest rest' own later = later
-
-        go : (f : Option Object) → of_id objects x ≡ f → is_some f ≡ true → ids (order.members (listed xs) parent) ≡ picked parent xs → ids (order.members (cons_option f (listed xs)) parent) ≡ picked parent (x ∷ xs)
-        go None e t later = absurd (true≢false (sym t))
-        go (Some o) e t later =
-            choice (option_eq ◌==◌ o.parent parent) o (order.members (listed xs) parent) (picked parent xs) (whole.own x o e) later
-            ∙ ap (λ over. if option_eq ◌==◌ over parent then x ∷ picked parent xs else picked parent xs) (sym (parent_is x o e))
+      members_ids parent (x ∷ xs) there =
+          let found = object_of x (there x (inl refl)) in let o = found.0 in
+          ap (λ f. ids (order.members (cons_option f (listed xs)) parent)) found.1
+          ∙ choice (option_eq ◌==◌ o.parent parent) o (order.members (listed xs) parent) (picked parent xs) (whole.own x o found.1) (members_ids parent xs (λ y h. there y (inr h)))
+          ∙ ap (λ over. if option_eq ◌==◌ over parent then x ∷ picked parent xs else picked parent xs) (sym (parent_is x o found.1))
+        where
+          choice : (b : Bool) (o : Object) (rest : List Object) (rest' : List ℕ) → o.id ≡ x → ids rest ≡ rest' → ids (if b then o ∷ rest else rest) ≡ (if b then x ∷ rest' else rest')
+          choice true o rest rest' own later = ap₂ ◌∷◌ own later
+          choice false o rest rest' own later = later
 
       members_are : (parent : Option ℕ) → nest.IsParent is_there parent → ids (order.members painted parent) ≡ siblings groups parent
       members_are parent there =
@@ -474,14 +463,3 @@ module _ {w h : ℕ} {objects : List (Option Object)} {groups : List (List (ℕ 
           go : (ids : List ℕ) → IsWay over c ids → Has o.id (c ∷ ids) → Has x (inside board o)
           go [] r h = elim h [ inl here ↦ absurd (other here) | inr later ↦ absurd later ]
           go (q ∷ ids) r h = elim h [ inl here ↦ absurd (other here) | inr later ↦ meets x (ap is_some there) (q ∷ ids) (sym sibling ∙ r.0, r.1) (inr later) ]
-
-      -- where no sibling stands twice, nothing stands twice inside
-      pub inside_once : ((at : ℕ) → stack.IsDistinct (get_or groups at [])) → IsDistinct (inside board o)
-      inside_once once = (apart (is_smart o), rest (is_smart o)) where
-        apart : (b : Bool) → ¬ Has o.id (if b then ids_in board (Some o.id) else [])
-        apart true h = no_return over o.id (along o.id).0 (along o.id).1 (nest.on_the_way (siblings groups) over is_there known stands members (length (live objects)) o.id o.id (along o.id).0 o_there (along o.id).1 h)
-        apart false h = h
-
-        rest : (b : Bool) → IsDistinct (if b then ids_in board (Some o.id) else [])
-        rest true = members_once once o.id o_there
-        rest false = tt

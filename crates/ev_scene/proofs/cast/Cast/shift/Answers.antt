@@ -2,7 +2,7 @@ use Rattle.std.proofs.Common.{◌≡◌, ◌-ℤ◌, FitsSigned, w64, refl, ap, 
 use Rattle.std.proofs.lemmas.Int.{to_z-of_z}
 use Rattle.ev_scene.specs.Board.{values_of}
 use Rattle.ev_scene.specs.Cast.{board_of}
-use Rattle.ev_scene.proofs.Shifting.{both}
+use Rattle.std.proofs.lemmas.Bool.{and_parts}
 use Rattle.ev_scene.proofs.Standing.{looked}
 use Rattle.ev_scene.proofs.Moving.{passed, not_passed, told_places, told_place, no_place, group_answers, group_made, one_made, one_answers, one_refused}
 use Rattle.ev_scene.proofs.Verdicts.{has_state}
@@ -18,7 +18,7 @@ returns-in_default-place-clause-edits c =
     )
 
 pub distance-dy-requires-clause-to : goal.distance-dy-requires-clause-to
-distance-dy-requires-clause-to c = (both _ _ (passed _ _ _ (c.in-Some-place.ensures).value).0).1
+distance-dy-requires-clause-to c = (and_parts _ _ (passed _ _ _ (c.in-Some-place.ensures).value).0).1
 
 pub returns-then-is_smart-clause-edits : goal.returns-then-is_smart-clause-edits
 returns-then-is_smart-clause-edits c =
