@@ -47,8 +47,8 @@ fn commands(alloc: Global, plan: &Plan) -> Result<Commands, Fail>
     requires { LiesWithin 130 64 (has_pixel plan.now.work) }
     ensures { IfOk result (AreOn 130 64 (has_pixel plan.now.work)) }
 {
-    let records = [red(alloc)?];
-    Ok(Commands::build(alloc, &records, plan.work(), 130, 64)?)
+    let record = red(alloc)?;
+    Ok(Commands::build(alloc, &[&record], plan.work(), 130, 64)?)
 }
 
 // All pixels of the canvas.
