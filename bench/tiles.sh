@@ -6,7 +6,7 @@ set -eu
 top="$(cd "$(dirname "$0")/.." && pwd)"
 . "$top/bench/crates.sh"
 folder_for_run "$@"
-copy_crates ev_argb ev_geom ev_region ev_state ev_model ev_fill ev_text ev_cmds ev_draw
+copy_crates ev_argb ev_geom ev_region ev_state ev_model ev_fill ev_text ev_areas ev_cmds ev_draw
 sed -i 's/pub(crate) fn put_solid/pub fn put_solid/' "$made/crates/ev_draw/src/solid.rt"
 echo 'pub use solid::put_solid;' >>"$made/crates/ev_draw/src/lib.rt"
 mkdir -p "$made/crates/bench_tiles/src" "$made/crates/bench_tiles/proofs/one"
