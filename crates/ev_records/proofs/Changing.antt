@@ -46,7 +46,7 @@ put_at all at place l less (inl e) = inl (e, ap (λ k. showing (put all at l) k)
 put_at all at place l less (inr ne) = inr (get_or-set_other all at place (record { was = (showing all at).was; now = l }) nothing ne)
 
 -- a look that stands somewhere after a put stood there before, or was put
-after_put : (all : List Showing) (at place : ℕ) (o : Option Look) (l : Look) → at < length all → Shows (showing (put all at o) place) l → Shows (showing all place) l ⊎ ((place ≡ at) × (o ≡ Some l))
+pub after_put : (all : List Showing) (at place : ℕ) (o : Option Look) (l : Look) → at < length all → Shows (showing (put all at o) place) l → Shows (showing all place) l ⊎ ((place ≡ at) × (o ≡ Some l))
 after_put all at place o l less s = ⊎_elim
     (λ r. ⊎_elim
     (λ e. inl (inl (ap (λ k. (showing all k).was) r.0 ∙ sym (ap (λ s. s.was) r.1) ∙ e)))
@@ -318,7 +318,7 @@ still_fits all place have = go (showing all place).was (showing all place).now (
   go (Some l) (Some m) h = test l.area (is_same l m) (h l refl)
 
 -- one more cell, which shows nothing
-nothing_at : (all : List Showing) (i : ℕ) (l : Look) → Shows (showing (all ++ nothing ∷ []) i) l → Shows (showing all i) l
+pub nothing_at : (all : List Showing) (i : ℕ) (l : Look) → Shows (showing (all ++ nothing ∷ []) i) l → Shows (showing all i) l
 nothing_at [] zero l s = s
 nothing_at [] (suc i) l s = s
 nothing_at (t ∷ all) zero l s = s
