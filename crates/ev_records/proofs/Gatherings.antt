@@ -65,3 +65,8 @@ pair_at all st at other old new t g =
 
 pub pair_not : (all : List Showing) (st : Standings) (at other : ℕ) (old : List Area) → is_turned st at other ≡ false → Gathers (λ x y. in_pair all st x y at other) old old
 pair_not all st at other old e = gathers_none (λ x y. in_pair all st x y at other) old (λ x y. ap (λ t. t && (held_in (still (showing all other)) x y && held_in (still (showing all at)) x y)) e)
+
+-- where none moved nothing is gathered
+pub none_moved : (all : List Showing) (st : Standings) (moved : List ℕ) (old : List Area) → length moved ≡ 0 → Gathers (in_turned all st moved) old old
+none_moved all st [] old e = gathers_none (in_turned all st []) old (λ x y. refl)
+none_moved all st (m ∷ ms) old e = absurd (omega (arith, e))

@@ -15,6 +15,7 @@ const FEW: usize = 32;
 
 // Adds what each two places have in common that show the same as at the start before and changed their order, of which
 // one is among the moved. Where these lie side by side, each group of them has few others near it.
+#[tactic(auto, using(crate::proofs::Gatherings::none_moved))]
 pub(crate) fn push_turned(
     areas: &mut Vec<Rect>,
     records: &Records,
@@ -25,6 +26,9 @@ pub(crate) fn push_turned(
     requires within { (place : ℕ) → is_marked moved.now place ≡ true → place < length records.now }
     ensures { OnOk result (Gathers (in_turned records.now ranks.now moved.now) areas.old.items areas.new.items) }
 {
+    if moved.len() == 0 {
+        return Ok(());
+    }
     if moved.len() <= FEW {
         return push_turned_of(areas, records, ranks, moved);
     }
