@@ -1,16 +1,82 @@
-// A scene that is edited and captured.
+// A scene that is edited and captured. Each edit stands in a function of its own, which tells
+// nothing, so that no proof carries what the others promise.
 ghost use Rattle.ev_model.specs.Limits.{IsEdit};
 
-use crate::SceneBox;
+use crate::{Captured, NoMemory, SceneBox};
+use ev_argb::Pixel;
 use ev_geom::Rect;
-use ev_model::{Edit, Kind, Name, Objects};
+use ev_model::{Edit, Kind, Name, Objects, Record};
+use std::alloc::Global;
 use std::test::Fail;
+
+fn name(text: &[u8]) -> Result<Name, Fail> {
+    Ok(Name::read(text).ok_or("a name")?)
+}
 
 // Whether an edit is carried out.
 fn is_done(scene: &mut SceneBox, edit: &Edit) -> bool
     requires { IsEdit edit.now }
 {
     scene.edit(edit).is_ok()
+}
+
+fn make(scene: &mut SceneBox, name: &Name, kind: Kind) -> bool {
+    is_done(scene, &Edit::Make { name: *name, kind })
+}
+
+fn delete(scene: &mut SceneBox, name: &Name) -> bool {
+    is_done(scene, &Edit::Delete { name: *name })
+}
+
+fn move_to(scene: &mut SceneBox, name: &Name, x: i64, y: i64) -> bool {
+    is_done(scene, &Edit::Move { name: *name, x, y })
+}
+
+fn resize(scene: &mut SceneBox, name: &Name, w: i64, h: i64) -> bool {
+    is_done(scene, &Edit::Resize { name: *name, w, h })
+}
+
+fn color(scene: &mut SceneBox, name: &Name, (r, g, b, a): (i64, i64, i64, i64)) -> bool {
+    let name = *name;
+    is_done(scene, &Edit::Color { name, r, g, b, a })
+}
+
+fn show(scene: &mut SceneBox, name: &Name) -> bool {
+    is_done(
+        scene,
+        &Edit::Show {
+            name: *name,
+            on: true,
+        },
+    )
+}
+
+fn raise(scene: &mut SceneBox, name: &Name) -> bool {
+    is_done(
+        scene,
+        &Edit::Raise {
+            name: *name,
+            up: true,
+        },
+    )
+}
+
+fn clip(scene: &mut SceneBox, name: &Name, clipper: &Name) -> bool {
+    let (name, clipper) = (*name, *clipper);
+    is_done(scene, &Edit::Clip { name, clipper })
+}
+
+fn member(scene: &mut SceneBox, name: &Name, smart: &Name) -> bool {
+    let (name, smart) = (*name, *smart);
+    is_done(scene, &Edit::Member { name, smart })
+}
+
+fn has_id(scene: &SceneBox, name: &Name, id: u64) -> bool {
+    scene.find(name) == Some(id)
+}
+
+fn id_of(scene: &SceneBox, name: &Name) -> Option<u64> {
+    scene.find(name)
 }
 
 // The id of the object at a place, the lowest first, or 0.
@@ -21,93 +87,124 @@ fn id_at(objects: &Objects, place: usize) -> u64 {
     }
 }
 
+fn ids(objects: &Objects) -> (u64, u64, u64) {
+    (id_at(objects, 0), id_at(objects, 1), id_at(objects, 2))
+}
+
+// The only record, or none.
+fn only(records: &[Record]) -> Option<&Record> {
+    match records {
+        [record] => Some(record),
+        _ => None,
+    }
+}
+
+fn area(records: &[Record]) -> Option<Rect> {
+    Some(only(records)?.area)
+}
+
+fn color_of(records: &[Record]) -> Option<Pixel> {
+    Some(only(records)?.color)
+}
+
+// The ids of the objects that were captured in their order, and the area and the colour of the only
+// record.
+type Seen = ((u64, u64, u64), Option<Rect>, Option<Pixel>);
+
+fn seen(captured: &Captured) -> Seen {
+    let records = captured.records();
+    (
+        ids(&captured.scene().objects),
+        area(records),
+        color_of(records),
+    )
+}
+
+fn is_area(area: Option<Rect>, x: i64, y: i64, w: i64, h: i64) -> bool {
+    area.is_some() && area == Rect::new(x, y, w, h)
+}
+
+// Whether a colour has this alpha, red and green, and no blue.
+fn is_color(color: Option<Pixel>, a: u8, r: u8, g: u8) -> bool {
+    color == Some(Pixel::new(a, r, g, 0))
+}
+
+fn capture(scene: &SceneBox) -> Result<Seen, NoMemory> {
+    Ok(seen(&scene.capture()?))
+}
+
 // Makes two rectangles, and gives the first a place, a size and a colour.
 fn is_made(scene: &mut SceneBox, a: &Name, b: &Name) -> bool {
-    let kind = Kind::Rect;
-    let first = is_done(scene, &Edit::Make { name: *a, kind });
-    let second = is_done(scene, &Edit::Make { name: *b, kind });
-    let name = *a;
-    let x = 300;
-    let y = -5;
-    let moved = is_done(scene, &Edit::Move { name, x, y });
-    let w = 30;
-    let h = 20;
-    let sized = is_done(scene, &Edit::Resize { name, w, h });
-    let color = Edit::Color {
-        name,
-        r: 200,
-        g: 10,
-        b: 0,
-        a: 100,
-    };
-    let coloured = is_done(scene, &color);
+    let first = make(scene, a, Kind::Rect);
+    let second = make(scene, b, Kind::Rect);
+    let moved = move_to(scene, a, 300, -5);
+    let sized = resize(scene, a, 30, 20);
+    let coloured = color(scene, a, (200, 10, 0, 100));
     first && second && moved && sized && coloured
+}
+
+// Shows the first and raises it.
+fn is_raised(scene: &mut SceneBox, a: &Name) -> bool {
+    let shown = show(scene, a);
+    let raised = raise(scene, a);
+    shown && raised
+}
+
+// Two rectangles, of which the first one is raised, or none where an edit was refused.
+fn two(alloc: Global, a: &Name, b: &Name) -> Result<Option<SceneBox>, NoMemory> {
+    let mut scene = SceneBox::new(alloc)?;
+    let made = is_made(&mut scene, a, b);
+    let raised = is_raised(&mut scene, a);
+    Ok((made && raised).then_some(scene))
 }
 
 #[test]
 fn a_scene_is_captured_in_order_and_cut_by_the_canvas(rt: HostRuntime) -> Result<(), Fail> {
-    let mut scene = SceneBox::new(rt.alloc())?;
-    let a = Name::read(b"a").expect(&rt, "a name");
-    let b = Name::read(b"b").expect(&rt, "a name");
-    assert!(rt; is_made(&mut scene, &a, &b));
-    assert!(rt; is_done(&mut scene, &Edit::Show { name: a, on: true }));
-    assert!(rt; is_done(&mut scene, &Edit::Raise { name: a, up: true }));
-    assert_eq!(rt; scene.find(&b), Some(2));
-    let captured = scene.capture()?;
-    let objects = &captured.scene().objects;
-    assert_eq!(rt; id_at(objects, 0), 2);
-    assert_eq!(rt; id_at(objects, 1), 1);
-    assert_eq!(rt; captured.records().len(), 1);
-    let record = captured.records().first().expect(&rt, "a record");
-    let area = Rect::new(300, 0, 20, 15).expect(&rt, "a rectangle");
-    assert_eq!(rt; record.area, area);
-    assert_eq!(rt; record.color.bits(), 0x6464_0a00);
+    let (a, b) = (name(b"a")?, name(b"b")?);
+    let scene = two(rt.alloc(), &a, &b)?.ok_or("edits")?;
+    assert!(rt; has_id(&scene, &b, 2));
+    let (ids, area, color) = capture(&scene)?;
+    assert_eq!(rt; ids, (2, 1, 0));
+    assert!(rt; is_area(area, 300, 0, 20, 15));
+    assert!(rt; is_color(color, 100, 100, 10));
     Ok(())
 }
 
 // Puts a into a new group g, which b clips, and moves the group.
 fn is_grouped(scene: &mut SceneBox, g: &Name, a: &Name, b: &Name) -> bool {
-    let kind = Kind::Smart;
-    let made = is_done(scene, &Edit::Make { name: *g, kind });
-    let shown = is_done(scene, &Edit::Show { name: *g, on: true });
-    let (name, smart, clipper) = (*g, *g, *b);
-    let joined = is_done(scene, &Edit::Member { name: *a, smart });
-    let clipped = is_done(scene, &Edit::Clip { name, clipper });
-    let (x, y) = (-300, 5);
-    let moved = is_done(scene, &Edit::Move { name, x, y });
+    let made = make(scene, g, Kind::Smart);
+    let shown = show(scene, g);
+    let joined = member(scene, a, g);
+    let clipped = clip(scene, g, b);
+    let moved = move_to(scene, g, -300, 5);
     made && shown && joined && clipped && moved
+}
+
+// Gives the clipper a size, and shows both rectangles.
+fn is_shown(scene: &mut SceneBox, a: &Name, b: &Name) -> bool {
+    let sized = resize(scene, b, 8, 9);
+    let first = show(scene, a);
+    let second = show(scene, b);
+    sized && first && second
+}
+
+// A group of one rectangle, which another one clips.
+fn grouped(alloc: Global, g: &Name, a: &Name, b: &Name) -> Result<Option<SceneBox>, NoMemory> {
+    let mut scene = SceneBox::new(alloc)?;
+    let made = is_made(&mut scene, a, b);
+    let grouped = is_grouped(&mut scene, g, a, b);
+    let shown = is_shown(&mut scene, a, b);
+    Ok((made && grouped && shown).then_some(scene))
 }
 
 #[test]
 fn a_group_is_clipped_and_moved(rt: HostRuntime) -> Result<(), Fail> {
-    let mut scene = SceneBox::new(rt.alloc())?;
-    let a = Name::read(b"a").expect(&rt, "a name");
-    let b = Name::read(b"b").expect(&rt, "a name");
-    let g = Name::read(b"g").expect(&rt, "a name");
-    assert!(rt; is_made(&mut scene, &a, &b));
-    assert!(rt; is_grouped(&mut scene, &g, &a, &b));
-    assert!(rt;
-        is_done(
-            &mut scene,
-            &Edit::Resize {
-                name: b,
-                w: 8,
-                h: 9
-            }
-        )
-    );
-    assert!(rt; is_done(&mut scene, &Edit::Show { name: a, on: true }));
-    assert!(rt; is_done(&mut scene, &Edit::Show { name: b, on: true }));
-    let captured = scene.capture()?;
-    let objects = &captured.scene().objects;
-    assert_eq!(rt; id_at(objects, 0), 2);
-    assert_eq!(rt; id_at(objects, 1), 3);
-    assert_eq!(rt; id_at(objects, 2), 1);
-    assert_eq!(rt; captured.records().len(), 1);
-    let record = captured.records().first().expect(&rt, "a record");
-    let area = Rect::new(0, 0, 8, 9).expect(&rt, "a rectangle");
-    assert_eq!(rt; record.area, area);
-    assert!(rt; is_done(&mut scene, &Edit::Delete { name: g }));
-    assert!(rt; scene.find(&a).is_none());
+    let (a, b, g) = (name(b"a")?, name(b"b")?, name(b"g")?);
+    let mut scene = grouped(rt.alloc(), &g, &a, &b)?.ok_or("edits")?;
+    let (ids, area, _) = capture(&scene)?;
+    assert_eq!(rt; ids, (2, 3, 1));
+    assert!(rt; is_area(area, 0, 0, 8, 9));
+    assert!(rt; delete(&mut scene, &g));
+    assert_eq!(rt; id_of(&scene, &a), None);
     Ok(())
 }
