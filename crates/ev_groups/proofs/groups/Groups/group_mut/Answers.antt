@@ -8,7 +8,7 @@ returns-in-Some c =
       record {
         writes_back = tt;
         value = lent_group c.self.inside.top c.self.inside.members.slots c.make.new.members.slots c.args.parent c.place-place.result c.make.ensures.same c.place-place.ensures c.if-place-eq0.false
-        c.in-Some.members.now c.in-Some.ensures.value;
+            c.in-Some.members.now c.in-Some.ensures.value;
         empty = tt;
       },
     )
