@@ -1,8 +1,9 @@
 // Samples of an image that fills an object of w by h.
-ghost use Rattle.std.specs.Prelude.{◌≡◌, ◌+◌, ◌≤◌, ◌<◌, length, map};
+ghost use Rattle.std.specs.Prelude.{◌≡◌, ℕ, ◌+◌, ◌≤◌, ◌<◌, IfSome, length, map};
 ghost use Rattle.std.specs.List.{range_with_len};
 ghost use Rattle.ev_model.specs.Limits.{IsFill};
 ghost use Rattle.ev_model.specs.Sample.{image_sample};
+ghost use Rattle.ev_fill.specs.Parts.{shown_row};
 
 use crate::axes::ShownRow;
 use crate::form::Form;
@@ -46,8 +47,28 @@ pub(crate) fn image_row<T: Form>(
     requires room { i + length into.old ≤ w }
     ensures { into.new ≡ map (λ column. T.form (image_sample image.now part.now w h column j)) (range_with_len i (length into.old)) }
 {
+    let shown = ShownRow::at(part, image, h, j);
+    shown_samples(image, part, w, i, shown, into);
+}
+
+// The samples from column i on of each row that shows this, in the form of `into`.
+pub(crate) fn shown_samples<T: Form>(
+    image: &Image,
+    part: &ImagePart,
+    w: u32,
+    i: u32,
+    shown: Option<ShownRow>,
+    into: &mut [T],
+)
+    requires fill { IsFill part.now.fill }
+    requires width { w ≤ 1000000 }
+    requires place { i < w }
+    requires room { i + length into.old ≤ w }
+    requires row { IfSome shown (λ shown. shown.y < image.now.h) }
+    ensures { (h j : ℕ) → j < h → shown_row image.now part.now h j ≡ shown → into.new ≡ map (λ column. T.form (image_sample image.now part.now w h column j)) (range_with_len i (length into.old)) }
+{
     let columns = part.columns(image, w);
-    match ShownRow::at(part, image, h, j) {
+    match shown {
         Some(shown) => {
             let phase = columns.phase(i);
             fill_row(image.row(shown.y), &columns, shown.hidden, phase, into);

@@ -10,4 +10,5 @@ mod run;
 #[cfg(test)]
 mod tests;
 
-pub use part::{pixel_row, sample, sample_row};
+pub use axes::ShownRow;
+pub use part::{pixel_row, sample, sample_row, shown_pixels, shown_row};

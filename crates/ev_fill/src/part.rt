@@ -1,11 +1,12 @@
 // Samples of an image object.
-ghost use Rattle.std.specs.Prelude.{◌≡◌, ◌+◌, ◌≤◌, ◌<◌, length};
+ghost use Rattle.std.specs.Prelude.{◌≡◌, ℕ, ◌+◌, ◌≤◌, ◌<◌, IfSome, length};
 ghost use Rattle.ev_model.specs.Limits.{IsFill};
 ghost use Rattle.ev_model.specs.Sample.{sample};
 ghost use Rattle.ev_model.specs.declared.content.Content.TheVariants.{Image};
 ghost use Rattle.ev_fill.specs.Rows as rows;
 
-use crate::image::{image_row, image_sample};
+use crate::axes::ShownRow;
+use crate::image::{image_row, image_sample, shown_samples};
 use crate::run::empty;
 use ev_argb::Pixel;
 use ev_model::ImagePart;
@@ -53,6 +54,35 @@ pub fn pixel_row(part: &ImagePart, w: u32, h: u32, i: u32, j: u32, into: &mut [P
 {
     match &part.loaded {
         Some(loaded) => image_row(loaded.image(), part, w, h, i, j, into),
+        None => empty(into),
+    }
+}
+
+/// What row j of an image object of h rows shows of its image. None where it shows nothing.
+pub fn shown_row(part: &ImagePart, h: u32, j: u32) -> Option<ShownRow>
+    requires fill { IsFill part.now.fill }
+    requires height { h ≤ 1000000 }
+    requires place { j < h }
+    ensures value { result ≡ rows.shown_row part.now h j }
+    ensures within { IfSome result (rows.HasRow part.now) }
+{
+    match &part.loaded {
+        Some(loaded) => ShownRow::at(part, loaded.image(), h, j),
+        None => None,
+    }
+}
+
+/// As `pixel_row`, for each row of an image object of w columns that shows this.
+pub fn shown_pixels(part: &ImagePart, w: u32, i: u32, shown: Option<ShownRow>, into: &mut [Pixel])
+    requires fill { IsFill part.now.fill }
+    requires width { w ≤ 1000000 }
+    requires place { i < w }
+    requires room { i + length into.old ≤ w }
+    requires row { IfSome shown (rows.HasRow part.now) }
+    ensures { (h j : ℕ) → j < h → rows.shown_row part.now h j ≡ shown → into.new ≡ rows.pixel_row part.now w h i j (length into.old) }
+{
+    match &part.loaded {
+        Some(loaded) => shown_samples(loaded.image(), part, w, i, shown, into),
         None => empty(into),
     }
 }
