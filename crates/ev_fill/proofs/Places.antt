@@ -1,12 +1,12 @@
 -- Runs of samples that lie in one part of the fill.
-use Rattle.std.proofs.Common.{◌≡◌, ℕ, suc, zero, ◌+◌, ◌-◌, ◌*◌, ◌/◌, ◌<◌, ◌≤◌, Bool, true, false, ◌&&◌, ◌||◌, List, [], ◌∷◌, map, length, take, drop, replicate, Option, Some, None, refl, sym, ap, ◌∙◌, arith}
+use Rattle.std.proofs.Common.{◌≡◌, ℕ, suc, zero, ◌+◌, ◌-◌, ◌*◌, ◌/◌, ◌<◌, ◌≤◌, Bool, true, false, ◌&&◌, ◌||◌, List, [], ◌∷◌, map, length, take, drop, replicate, Option, Some, None, inl, inr, refl, sym, ap, ◌∙◌, arith}
 use Rattle.std.proofs.lemmas.List.{take_rest}
 use Rattle.std.specs.Prelude.{nat_lt, nat_le, slice_get, ◌==◌}
 use Rattle.std.specs.List.{range_with_len}
 use Rattle.std.proofs.Math.Nat.{mul-div_cancel}
-use Rattle.std.proofs.lemmas.Bool.{eqb-true, lt-ltb, le-ltb, le-leb, lt-leb}
+use Rattle.std.proofs.lemmas.Bool.{cases_lt, ne_eqb, eqb-true, lt-ltb, le-ltb, le-leb, lt-leb}
 use Rattle.ev_argb.specs.Argb.{Argb}
-use Rattle.ev_model.specs.Axis.{low_source, low_part, high_part, middle_source, middle_part, is_middle}
+use Rattle.ev_model.specs.Axis.{low_source, low_part, high_part, middle_source, middle_part, is_middle, source_at}
 use Rattle.ev_model.specs.declared.axis.Axis.{Axis}
 use Rattle.ev_fill.specs.Parts.{place_sample}
 use Rattle.ev_model.proofs.Runs.{run_same, run_constant}
@@ -14,6 +14,27 @@ use Rattle.ev_model.proofs.Runs.{run_same, run_constant}
 and_false : (b : Bool) → (b && false) ≡ false
 and_false true = refl
 and_false false = refl
+
+-- where the fill is as long as the image, each place has its own
+pub same_place : (axis : Axis) (u : ℕ) → axis.len ≡ axis.source → u < axis.len → source_at axis u ≡ Some u
+same_place axis u same within =
+    elim (cases_lt u (low_part axis)) [
+      | inl low ↦ rw (lt-ltb u (low_part axis) low) refl
+      | inr low ↦ elim (cases_lt u (axis.len - high_part axis)) [
+        | inl high ↦
+            let some : 0 < middle_part axis = omega arith in
+            let whole : middle_source axis ≡ middle_part axis = omega arith in
+            let not_empty : (middle_source axis == 0) ≡ false = ne_eqb (middle_source axis) 0 (λ none. omega (arith, none)) in
+            let place : low_source axis + (u - low_part axis) ≡ u = omega arith in
+            rw (le-ltb u (low_part axis) low, lt-leb (axis.len - high_part axis) u high, not_empty)
+            (ap (λ (m : ℕ). Some (low_source axis + (u - low_part axis) * m / middle_part axis)) whole
+            ∙ ap (λ (q : ℕ). Some (low_source axis + q)) (mul-div_cancel (u - low_part axis) some)
+            ∙ ap (λ (x : ℕ). Some x) place)
+        | inr high ↦
+            let e : axis.source - (axis.len - u) ≡ u = omega arith in
+            rw (le-ltb u (low_part axis) low, le-leb (axis.len - high_part axis) u high, e) refl
+      ]
+    ]
 
 -- a place in the low border
 pub low_sample : (row : List Argb) (axis : Axis) (hidden : Bool) (u : ℕ) → u < low_part axis → place_sample row axis hidden u ≡ slice_get row u

@@ -5,7 +5,7 @@ ghost use Rattle.ev_model.specs.Limits.{IsFill};
 ghost use Rattle.ev_model.specs.Sample.{image_sample};
 ghost use Rattle.ev_fill.specs.Parts.{shown_row};
 
-use crate::axes::ShownRow;
+use crate::axes::{ShownRow, place_of};
 use crate::form::Form;
 use crate::row::{fill_row, place_sample};
 use crate::run::empty;
@@ -65,12 +65,13 @@ pub(crate) fn shown_samples<T: Form>(
     requires place { i < w }
     requires room { i + length into.old ≤ w }
     requires row { IfSome shown (λ shown. shown.y < image.now.h) }
-    ensures { (h j : ℕ) → j < h → shown_row image.now part.now h j ≡ shown → into.new ≡ map (λ column. T.form (image_sample image.now part.now w h column j)) (range_with_len i (length into.old)) }
+    ensures samples { (h j : ℕ) → j < h → shown_row image.now part.now h j ≡ shown → into.new ≡ map (λ column. T.form (image_sample image.now part.now w h column j)) (range_with_len i (length into.old)) }
+    ensures len { length into.new ≡ length into.old }
 {
     let columns = part.columns(image, w);
     match shown {
         Some(shown) => {
-            let phase = columns.phase(i);
+            let phase = place_of(&columns, i);
             fill_row(image.row(shown.y), &columns, shown.hidden, phase, into);
         }
         None => empty(into),

@@ -79,7 +79,8 @@ pub fn shown_pixels(part: &ImagePart, w: u32, i: u32, shown: Option<ShownRow>, i
     requires place { i < w }
     requires room { i + length into.old ≤ w }
     requires row { IfSome shown (rows.HasRow part.now) }
-    ensures { (h j : ℕ) → j < h → rows.shown_row part.now h j ≡ shown → into.new ≡ rows.pixel_row part.now w h i j (length into.old) }
+    ensures pixels { (h j : ℕ) → j < h → rows.shown_row part.now h j ≡ shown → into.new ≡ rows.pixel_row part.now w h i j (length into.old) }
+    ensures len { length into.new ≡ length into.old }
 {
     match &part.loaded {
         Some(loaded) => shown_samples(loaded.image(), part, w, i, shown, into),
