@@ -35,19 +35,8 @@ pub(crate) fn put_color(op: Op, color: Pixel, x: u32, y: u32, w: u32, h: u32, pl
     }
 }
 
-// Puts pixels that are tinted first.
-pub(crate) fn put_pixels(op: Op, color: Pixel, x: u32, y: u32, row: &mut [Pixel], plane: &mut Plane)
-    requires columns { x + length row.old ≤ plane.old.w }
-    requires row { y < plane.old.h }
-    requires count { plane.old.painted + length row.old < 2 ^ 64 }
-    ensures { Paints (span x y (length row.old)) (λ i j value. put op (tint (pixel_of row.old x i) color) value) (length row.old) plane.old plane.new }
-{
-    tint_row(row, color);
-    put_span(op, x, y, row, plane);
-}
-
 // Tints each pixel of a row.
-fn tint_row(row: &mut [Pixel], color: Pixel)
+pub(crate) fn tint_row(row: &mut [Pixel], color: Pixel)
     ensures { row.new ≡ map (λ p. tint p color) row.old }
 {
     if is_white(color) {
