@@ -1,11 +1,10 @@
 -- Samples of an image, row by row.
-use Rattle.std.proofs.Common.{◌≡◌, ℕ, suc, zero, ◌+◌, ◌-◌, ◌*◌, ◌/◌, ◌%◌, ◌<◌, ◌≤◌, Bool, true, false, cond, not, ◌&&◌, inl, inr, List, [], ◌∷◌, map, take, drop, replicate, Option, Some, None, refl, sym, ap, ◌∙◌, subst, arith}
-use Rattle.std.specs.Prelude.{nat_lt, slice_get, option_map, option_and_then, ◌==◌}
+use Rattle.std.proofs.Common.{◌≡◌, ℕ, suc, zero, ◌+◌, ◌-◌, ◌*◌, ◌%◌, ◌<◌, ◌≤◌, Bool, true, false, cond, not, ◌&&◌, List, [], ◌∷◌, map, take, drop, replicate, Option, Some, None, refl, sym, ap, ◌∙◌, subst, arith}
+use Rattle.std.specs.Prelude.{nat_lt, slice_get, option_map, option_and_then}
 use Rattle.std.specs.List.{range_with_len}
-use Rattle.std.proofs.lemmas.Bool.{cases_lt, lt-ltb, le-ltb, le-leb, lt-leb}
-use Rattle.std.proofs.lemmas.Nat.{div_below}
+use Rattle.std.proofs.lemmas.Bool.{lt-ltb}
 use Rattle.ev_argb.specs.Argb.{Argb}
-use Rattle.ev_model.specs.Axis.{IsAxis, phase, low_source, low_part, high_part, middle_source, middle_part, is_middle, source_at}
+use Rattle.ev_model.specs.Axis.{IsAxis, phase, is_middle, source_at}
 use Rattle.ev_model.specs.Raster.{Raster, row}
 use Rattle.ev_model.specs.Sample.{columns_of, rows_of, filled_columns, filled_rows, raster_at, axes_sample, image_sample, sample}
 use Rattle.ev_model.specs.Limits.{IsFill}
@@ -19,7 +18,6 @@ use Rattle.ev_fill.specs.Parts.{place_sample, shown_row}
 use Rattle.ev_fill.specs.declared.axes.ShownRow.{ShownRow}
 use Rattle.ev_model.proofs.Runs.{run_same, run_constant}
 use Rattle.ev_fill.proofs.Places.{get_drop}
-use Rattle.ev_fill.proofs.Stretched.{mul-lt_right}
 use Rattle.ev_fill.proofs.Turns.{phase_more}
 use Rattle.ev_model.proofs.Axes.{phase_within, source_below}
 

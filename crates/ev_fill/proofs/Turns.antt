@@ -1,10 +1,8 @@
 -- A fill that repeats: places after one another, and where the fill begins anew.
-use Rattle.std.proofs.Common.{◌≡◌, ℕ, ◌+◌, ◌*◌, ◌%◌, ◌<◌, ◌≤◌, map, ℤ, pos, negsuc, ◌+ℤ◌, ◌-ℤ◌, ◌≤ℤ◌, refl, sym, ap, ◌∙◌, arith}
-use Rattle.std.specs.Prelude.{unsigned_abs}
+use Rattle.std.proofs.Common.{◌≡◌, ℕ, ◌+◌, ◌*◌, ◌%◌, ◌<◌, ◌≤◌, map, pos, ◌+ℤ◌, ◌-ℤ◌, sym, ap, ◌∙◌, arith}
 use Rattle.std.specs.List.{range_with_len}
 use Rattle.std.proofs.Math.Nat.{add-mod, mod-mod, mod-eq_of_lt}
-use Rattle.std.proofs.lemmas.Int.{ints, int_rem_euclid_is}
-use Rattle.std.proofs.lemmas.Nat.{mod_below}
+use Rattle.std.proofs.lemmas.Int.{ints}
 use Rattle.ev_model.specs.Axis.{IsAxis, phase}
 use Rattle.ev_model.specs.declared.axis.Axis.{Axis}
 use Rattle.ev_model.proofs.Axes.{is_turned, phase_is}

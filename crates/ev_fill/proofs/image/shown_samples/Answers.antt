@@ -1,4 +1,4 @@
-use Rattle.std.proofs.Common.{◌≡◌, ℕ, ◌%◌, ◌∙◌, None, ap, sym, length, arith}
+use Rattle.std.proofs.Common.{ℕ, ◌%◌, ◌∙◌, None, ap, sym, length, arith}
 use Rattle.std.proofs.lemmas.List.{length-replicate}
 use Rattle.std.proofs.lemmas.List.FromFn.{length-map-range_with_len}
 use Rattle.ev_model.specs.Axis.{phase}
