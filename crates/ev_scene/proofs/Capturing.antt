@@ -24,6 +24,10 @@ nothing_more (x ∷ xs) = ap (λ rest. x ∷ rest) (nothing_more xs)
 pub all_done : {A : Type 0} (xs all : List A) → xs ++ [] ≡ all → xs ≡ all
 all_done xs all e = sym (nothing_more xs) ∙ e
 
+-- what the next of a list gives
+pub pick_next : {A B : Type 0} (find : A → Option B) (xs : List A) (i : ℕ) (d : A) → i < length xs → filter_map find (drop i xs) ≡ cons_option (find (get_or xs i d)) (filter_map find (drop (i + 1) xs))
+pick_next find xs i d low = let k : suc i ≡ i + 1 = omega arith in ap (filter_map find) (drop-cons xs i d low) ∙ ap (λ k. cons_option (find (get_or xs i d)) (filter_map find (drop k xs))) k
+
 -- what is seen of one more object of a list
 pub one_more_seen : {B : Type 0} (see : Object → Option B) (items : List (Held Object)) (i : ℕ) (item : Held Object) (so_far now all : List B) → i < length items → item ≡ get_or items i item
     → now ≡ so_far ++ option_to_list (see item.value) → so_far ++ filter_map see (values (drop i items)) ≡ all → now ++ filter_map see (values (drop (i + 1) items)) ≡ all
@@ -67,10 +71,7 @@ are_objects (s ∷ states) limits = go (limits 0 s.value (omega arith)) (are_obj
 pub one_more_id : (objects : List (Option Object)) (ids : List ℕ) (i d : ℕ) (so_far now all : List Object) → i < length ids → now ≡ so_far ++ option_to_list (of_id objects (get_or ids i d))
     → so_far ++ filter_map (of_id objects) (drop i ids) ≡ all → now ++ filter_map (of_id objects) (drop (i + 1) ids) ≡ all
 one_more_id objects ids i d so_far now all h e f =
-    let next : drop i ids ≡ get_or ids i d ∷ drop (suc i) ids = drop-cons ids i d h in
-    let k : i + 1 ≡ suc i = omega arith in
-    one_more so_far now (filter_map (of_id objects) (drop (i + 1) ids)) all (of_id objects (get_or ids i d)) e
-    (ap (λ k. so_far ++ cons_option (of_id objects (get_or ids i d)) (filter_map (of_id objects) (drop k ids))) k ∙ sym (ap (λ rest. so_far ++ filter_map (of_id objects) rest) next) ∙ f)
+    one_more so_far now (filter_map (of_id objects) (drop (i + 1) ids)) all (of_id objects (get_or ids i d)) e (ap (λ rest. so_far ++ rest) (sym (pick_next (of_id objects) ids i d h)) ∙ f)
 
 -- all ids were taken
 pub all_ids : (objects : List (Option Object)) (items ids : List ℕ) (i : ℕ) (so_far : List Object) → items ≡ ids → length items ≤ i → so_far ++ filter_map (of_id objects) (drop i items) ≡ filter_map (of_id objects) items

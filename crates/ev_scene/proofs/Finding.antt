@@ -15,7 +15,7 @@ use Rattle.ev_scene.specs.Board.{named, values_of}
 use Rattle.ev_scene.specs.Roll.{same_label, id_in, name_at, IsRoll, IsStateOf}
 use Rattle.ev_scene.specs.declared.label.Label.{Label}
 use Rattle.ev_scene.proofs.Places.{of_id_map, of_id_put, id_low, id_high}
-use Rattle.ev_scene.proofs.Naming.{NamedBy, named_by, unnamed, free_name, own_value, added, removed, changed}
+use Rattle.ev_scene.proofs.Naming.{held_at, name_held, NamedBy, named_by, unnamed, free_name, own_value, added, removed, changed}
 
 -- a change leaves the id and the name
 apply_id : (c : Change) (o : Object) → (apply c o).id ≡ o.id
@@ -65,9 +65,6 @@ module _ (states : List (Option (Held Object))) (ids : List (Label × ℕ)) (see
       → IsRoll (put states id None) ids'
   removed_from ids' name id leads others fewer = removed states ids ids' name id roll (sym leads) (λ q. others (record { name = q })) fewer
 
-  pub led_high : (name : List ℕ) (id : ℕ) → Some id ≡ id_in ids name → id - 1 < length states
-  led_high name id leads = let by : NamedBy states name id = named_by states ids roll name id (sym leads) in id_high states id by.state by.there
-
   pub changed_at : (id : ℕ) (s : Held Object) (c : Change) (o : Object) (serial : ℕ) → of_id states id ≡ Some s → o ≡ apply c s.value → IsRoll (put states id (Some (record { value = o; serial = serial }))) ids
   changed_at id s c o serial there e =
       changed states ids id s (record { value = o; serial = serial }) roll there (ap (λ o. o.id) e ∙ apply_id c s.value) (ap (λ o. o.name) e ∙ apply_name c s.value)
@@ -96,20 +93,11 @@ module _ (states : List (Option (Held Object))) (ids : List (Label × ℕ)) (see
 
   -- the name of an object leads to its id
   pub leads_back : (id : ℕ) (o : Object) → of_id (values_of seen) id ≡ Some o → Some id ≡ id_in ids o.name
-  leads_back id o there =
-      let at : of_id (values_of states) id ≡ Some o = ap (λ seen. of_id (values_of seen) id) is ∙ there in
-      sym ((roll.leads o.name id).1 (named_there (of_id states id) (sym (of_id_map value_of states id) ∙ at)))
-    where
-      named_there : (s : Option (Held Object)) → option_map value_of s ≡ Some o → option_map (λ s. s.value.name) s ≡ Some o.name
-      named_there None e = absurd (none-some o e)
-      named_there (Some s) e = ap (λ o. Some o.name) (same_Some _ _ e)
+  leads_back id o there = sym ((roll.leads o.name id).1 (name_held states id o (ap (λ seen. of_id (values_of seen) id) is ∙ there)))
 
   -- an object that is there is removed
   pub taken : (states' : List (Option (Held Object))) (id : ℕ) (o : Object) → of_id (values_of seen) id ≡ Some o → states' ≡ put seen id None → states' ≡ (if is_some (of_id seen id) then put seen id None else seen)
-  taken states' id o there e = e ∙ ap (λ b. if b then put seen id None else seen) (sym (is_there (of_id seen id) (sym (of_id_map value_of seen id) ∙ there))) where
-    is_there : (s : Option (Held Object)) → option_map value_of s ≡ Some o → is_some s ≡ true
-    is_there None e = absurd (none-some o e)
-    is_there (Some s) e = refl
+  taken states' id o there e = e ∙ ap (λ b. if b then put seen id None else seen) (sym (ap is_some (held_at seen id o there).1.0))
 
   pub not_taken : (id : ℕ) → None ≡ of_id (values_of seen) id → seen ≡ (if is_some (of_id seen id) then put seen id None else seen)
   not_taken id none = ap (λ b. if b then put seen id None else seen) (sym (is_away (of_id seen id) (none ∙ of_id_map value_of seen id))) where

@@ -1,4 +1,5 @@
 pub mod Apart
+pub mod Making
 pub mod Places
 pub mod Naming
 pub mod Finding

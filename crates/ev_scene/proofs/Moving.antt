@@ -12,7 +12,7 @@ use Rattle.ev_model.specs.declared.object.Object.{Object}
 use Rattle.ev_model.specs.declared.refusal.Refusal.{Refusal}
 use Rattle.ev_model.specs.declared.refusal.Refusal.TheVariants as refusal
 use Rattle.ev_scene.specs.Slots.{of_id, put}
-use Rattle.ev_scene.specs.Board.{Board, inside, named}
+use Rattle.ev_scene.specs.Board.{Board, MakesAtMost, inside, named}
 use Rattle.ev_scene.specs.Change.{apply}
 use Rattle.ev_scene.specs.Edits.{Answers, Refuses, unless, known, with_named, move_verdict, move_writes, is_at, moved, may_shift, shifted_all, objects_in, changed}
 use Rattle.ev_scene.specs.declared.change.Change.{Change}
@@ -91,22 +91,22 @@ module _ (board : Board) (name : List ℕ) (o : Object) (is : Some o ≡ named b
     go (Err cause) ok err = let said = err o there in (subst (λ verdict. Refuses verdict cause) (sym its_verdict) said.0, said.1)
 
   -- the states that a smart object makes, none where it stays, are few enough
-  pub group_made : (dx dy : ℤ) → dx ≡ x -ℤ o.rect.x → dy ≡ y -ℤ o.rect.y → (made made' : ℕ) → made' ≤ made + length (inside board o) → (dx ≡ pos 0 → dy ≡ pos 0 → made' ≡ made)
-      → made' ≤ made + option_map_or (move_writes x y board) (named board.objects name) 1
-  group_made dx dy ex ey made made' few still = subst (λ found. made' ≤ made + option_map_or (move_writes x y board) found 1) is (go (is_at x y o) refl) where
-    go : (at : Bool) → is_at x y o ≡ at → made' ≤ made + (if at then 1 else length (inside board o))
+  pub group_made : (dx dy : ℤ) → dx ≡ x -ℤ o.rect.x → dy ≡ y -ℤ o.rect.y → (made made' : ℕ) → MakesAtMost (length (inside board o)) made made' → (dx ≡ pos 0 → dy ≡ pos 0 → made' ≡ made)
+      → MakesAtMost (option_map_or (move_writes x y board) (named board.objects name) 1) made made'
+  group_made dx dy ex ey made made' few still = subst (λ found. MakesAtMost (option_map_or (move_writes x y board) found 1) made made') is (go (is_at x y o) refl) where
+    go : (at : Bool) → is_at x y o ≡ at → MakesAtMost (if at then 1 else length (inside board o)) made made'
     go true e =
         let same = and_parts (int_eq x o.rect.x) (int_eq y o.rect.y) e in
         let none : made' ≡ made = still (ex ∙ no_distance x o.rect.x same.0) (ey ∙ no_distance y o.rect.y same.1) in
-        omega (arith, none)
+        record { grows = omega (arith, none); bound = omega (arith, none) }
     go false e = few
 
   -- the state that another object makes is one
-  pub one_made : (made made' : ℕ) → made' ≤ made + 1 → made' ≤ made + option_map_or (move_writes x y board) (named board.objects name) 1
-  one_made made made' few = subst (λ found. made' ≤ made + option_map_or (move_writes x y board) found 1) is (go (is_at x y o)) where
-    go : (at : Bool) → made' ≤ made + (if at then 1 else length (inside board o))
+  pub one_made : (made made' : ℕ) → MakesAtMost 1 made made' → MakesAtMost (option_map_or (move_writes x y board) (named board.objects name) 1) made made'
+  one_made made made' few = subst (λ found. MakesAtMost (option_map_or (move_writes x y board) found 1) made made') is (go (is_at x y o)) where
+    go : (at : Bool) → MakesAtMost (if at then 1 else length (inside board o)) made made'
     go true = few
-    go false = omega (arith, few)
+    go false = record { grows = few.grows; bound = omega (arith, few.bound) }
 
   -- another object
   module _ (plain : is_smart o ≡ false) (places : (is_place x && is_place y) ≡ true) where

@@ -22,17 +22,20 @@ pub record NamedBy (states : List (Option (Held Object))) (name : List ℕ) (id 
   pub own : state.value.id ≡ id
   pub first : named (values_of states) name ≡ Some state.value
 
+-- the state of an object that is there, and its name
+pub held_at : (states : List (Option (Held Object))) (id : ℕ) (o : Object) → of_id (values_of states) id ≡ Some o → (s : Held Object) × ((of_id states id ≡ Some s) × (s.value ≡ o))
+held_at states id o there = go (of_id states id) (sym (of_id_map value_of states id) ∙ there) where
+  go : (f : Option (Held Object)) → option_map value_of f ≡ Some o → (s : Held Object) × ((f ≡ Some s) × (s.value ≡ o))
+  go None e = absurd (none-some o e)
+  go (Some s) e = (s, (refl, same_Some _ _ e))
+
+pub name_held : (states : List (Option (Held Object))) (id : ℕ) (o : Object) → of_id (values_of states) id ≡ Some o → name_at states id ≡ Some o.name
+name_held states id o there = let s = held_at states id o there in ap (option_map (λ s. s.value.name)) s.1.0 ∙ ap (λ (o : Object). Some o.name) s.1.1
+
 -- a name that leads to an id is that object's, and one that leads nowhere is no object's
 module _ (states : List (Option (Held Object))) (ids : List (Label × ℕ)) (roll : IsRoll states ids) where
   leads_to : (name : List ℕ) (j : ℕ) (o : Object) → at_place (values_of states) j ≡ Some o → is_named name o ≡ true → id_in ids name ≡ Some (suc j)
-  leads_to name j o there same =
-      let e : option_map value_of (at_place states j) ≡ Some o = sym (at_map value_of states j) ∙ there in
-      let f : o.name ≡ name = (bytes_decides o.name name).0 same in
-      (roll.leads name (suc j)).1 (ap (option_map (λ s. s.value.name)) (of_id_suc states j) ∙ name_of (at_place states j) e f)
-    where
-      name_of : (s : Option (Held Object)) → option_map value_of s ≡ Some o → o.name ≡ name → option_map (λ s. s.value.name) s ≡ Some name
-      name_of None e f = absurd (none-some o e)
-      name_of (Some s) e f = ap (λ o. Some o.name) (same_Some _ _ e) ∙ ap Some f
+  leads_to name j o there same = (roll.leads name (suc j)).1 (name_held states (suc j) o (of_id_suc (values_of states) j ∙ there) ∙ ap Some ((bytes_decides o.name name).0 same))
 
   pub unnamed : (name : List ℕ) → id_in ids name ≡ None → named (values_of states) name ≡ None
   unnamed name nowhere = none_found (is_named name) (values_of states) (λ j o there. fails j o there (is_named name o) refl) where
@@ -65,10 +68,7 @@ module _ (states : List (Option (Held Object))) (ids : List (Label × ℕ)) (rol
     go (Some id) e = let by : NamedBy states name id = named_by name id e in absurd (none-some by.state.value (sym free ∙ by.first))
 
   pub own_value : (id : ℕ) (o : Object) → of_id (values_of states) id ≡ Some o → o.id ≡ id
-  own_value id o there = go (of_id states id) refl (sym (of_id_map value_of states id) ∙ there) where
-    go : (s : Option (Held Object)) → of_id states id ≡ s → option_map value_of s ≡ Some o → o.id ≡ id
-    go None e f = absurd (none-some o f)
-    go (Some s) e f = sym (ap (λ o. o.id) (same_Some _ _ f)) ∙ roll.own id s e
+  own_value id o there = let s = held_at states id o there in sym (ap (λ o. o.id) s.1.1) ∙ roll.own id s.0 s.1.0
 
 -- a name and an id, once an object was added: b says whether it has this name, and c whether it has this id
 added_leads : (b c : Bool) (n i : ℕ) (new name : List ℕ) (A A' : Option ℕ) (P P' : Option (List ℕ))

@@ -124,9 +124,6 @@ module _ {w h : ℕ} {objects : List (Option Object)} {groups : List (List (ℕ 
         → (list_all (may_shift dx dy) (objects_in board o) ≡ true) × (board ≡ shifted_all dx dy board o)
     group_rests ex ey e o there = (same_test o there ∙ e, sym (ap₂ (λ dx dy. shifted_all dx dy board o) ex ey ∙ not_shifted board o))
 
-    pub as_many : (o : Object) → of_id objects id ≡ Some o → length ids ≡ length (inside board o)
-    as_many o there = ap length (ids_are o there)
-
 -- new states in place of the old ones
 pub spread_is : (states states' : List (Option (Held Object))) (made all : List Object) (objects : List (Option Object)) → states' ≡ states → made ≡ all → objects ≡ spread made (values_of states') → objects ≡ spread all (values_of states)
 spread_is states states' made all objects same e f = f ∙ ap₂ spread e (ap values_of same)

@@ -20,7 +20,7 @@ use Rattle.ev_scene.specs.Whole.{IsWhole}
 use Rattle.ev_scene.specs.declared.change.Change.TheVariants as change
 use Rattle.ev_scene.proofs.Places.{id_low, id_high}
 use Rattle.ev_scene.proofs.Apart.{apart_absent}
-use Rattle.ev_scene.proofs.Restacking.{layer_in-pushed}
+use Rattle.ev_scene.proofs.Restacking.{layer_in-put_top}
 use Rattle.ev_scene.proofs.Standing.{has_group, entered}
 
 -- what was put on top and is taken out again
@@ -63,7 +63,7 @@ module _ {w h : ℕ} {objects : List (Option Object)} {groups : List (List (ℕ 
 
   -- it stands in the other parent
   pub stands_there : is_in (group groups' to) id ≡ true
-  stands_there = ap (λ group. is_in group id) put_there ∙ ap is_some (layer_in-pushed (group groups to) id o.layer id apart ∙ ap (λ b. if b then Some o.layer else layer_in (group groups to) id) (eq-eqb id id refl))
+  stands_there = ap (λ group. is_in group id) put_there ∙ ap is_some (layer_in-put_top (group groups to) id o.layer id apart ∙ ap (λ b. if b then Some o.layer else layer_in (group groups to) id) (eq-eqb id id refl))
 
   -- its old group has a place
   pub from_known : place o.parent < length groups'

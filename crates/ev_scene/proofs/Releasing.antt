@@ -18,13 +18,15 @@ use Rattle.ev_links.specs.Ties.{Ties, clipper_at, has, IsSound, Counts}
 use Rattle.ev_links.proofs.Counts.{Counts-none}
 use Rattle.ev_links.proofs.Ways.{has-Has}
 use Rattle.ev_scene.specs.Slots.{of_id, spread, value_of}
-use Rattle.ev_scene.specs.Board.{Board, values_of}
+use Rattle.ev_scene.specs.Board.{Board, MakesAtMost, values_of}
 use Rattle.ev_scene.specs.Change.{apply}
 use Rattle.ev_scene.specs.Edits.{clipped_by}
 use Rattle.ev_scene.specs.Roll.{name_at, IsStateOf}
 use Rattle.ev_scene.specs.Whole.{IsWhole}
 use Rattle.ev_scene.specs.declared.change.Change.TheVariants as change
+use Rattle.ev_scene.proofs.Making.{makes_both}
 use Rattle.ev_scene.proofs.Places.{of_id_map}
+use Rattle.ev_scene.proofs.Shifting as shift
 use Rattle.ev_scene.proofs.Standing.{stands_in}
 use Rattle.ev_scene.proofs.Trees.{has_layer, clipper_is, parent_is}
 use Rattle.ev_scene.proofs.Spreading.{spread_at, listed_stand, has_listed}
@@ -53,42 +55,34 @@ module _ (find : ℕ → Option Object) (test : Object → Bool) where
   length-chosen id ids = ap length (chosen_first id ids) ∙ length-append (chosen_one id) (chosen ids)
 
 -- the same along siblings
-module _ (objects : List (Option Object)) (group : List (ℕ × ℤ)) (id : ℕ) (at at' : Option ℕ) (sibling : ℕ) (objects' : List (Option Object))
-    (same : objects' ≡ objects) (here : at ≡ Some sibling) (next : ids_from group at' ≡ ids_above group sibling) where
-  abbrev clipped_from : Option ℕ → List Object
-  clipped_from at = filter (is_clipped_by id) (filter_map (of_id objects) (ids_from group at))
+module _ (objects : List (Option Object)) (group : List (ℕ × ℤ)) (id : ℕ) (at : Option ℕ) (later : List ℕ) (sibling : ℕ) (objects' : List (Option Object))
+    (same : objects' ≡ objects) (here : at ≡ Some sibling) (next : later ≡ ids_above group sibling) where
+  abbrev clipped_of : List ℕ → List Object
+  clipped_of ids = filter (is_clipped_by id) (filter_map (of_id objects) ids)
 
-  pub next_states : (now new end : List Object) → new ≡ now ++ map (apply (change.Clip None)) (filter (is_clipped_by id) (option_to_list (of_id objects' sibling)))
-      → now ++ map (apply (change.Clip None)) (clipped_from at) ≡ end → new ++ map (apply (change.Clip None)) (clipped_from at') ≡ end
+  abbrev one : List Object
+  one = filter (is_clipped_by id) (option_to_list (of_id objects' sibling))
+
+  from_here : ids_from group at ≡ sibling ∷ later
+  from_here = ap (ids_from group) here ∙ ap (λ ids. sibling ∷ ids) (sym next)
+
+  pub next_states : (now new end : List Object) → new ≡ now ++ map (apply (change.Clip None)) one
+      → now ++ map (apply (change.Clip None)) (clipped_of (ids_from group at)) ≡ end → new ++ map (apply (change.Clip None)) (clipped_of later) ≡ end
   next_states now new end is so_far =
-      ap (λ ids. new ++ map (apply (change.Clip None)) (filter (is_clipped_by id) (filter_map (of_id objects) ids))) next
-      ∙ chosen_more (of_id objects) (is_clipped_by id) (apply (change.Clip None)) sibling (ids_above group sibling) now new end
+      chosen_more (of_id objects) (is_clipped_by id) (apply (change.Clip None)) sibling later now new end
       (is ∙ ap (λ objects. now ++ map (apply (change.Clip None)) (filter (is_clipped_by id) (option_to_list (of_id objects sibling)))) same)
-      (sym (ap (λ at. now ++ map (apply (change.Clip None)) (clipped_from at)) here) ∙ so_far)
+      (sym (ap (λ ids. now ++ map (apply (change.Clip None)) (clipped_of ids)) from_here) ∙ so_far)
 
-  first_length : length (clipped_from at) ≡ length (filter (is_clipped_by id) (option_to_list (of_id objects' sibling))) + length (filter (is_clipped_by id) (filter_map (of_id objects) (ids_above group sibling)))
-  first_length = ap (λ at. length (clipped_from at)) here ∙ length-chosen (of_id objects) (is_clipped_by id) sibling (ids_above group sibling)
-      ∙ ap (λ objects'. length (filter (is_clipped_by id) (option_to_list (of_id objects' sibling))) + length (filter (is_clipped_by id) (filter_map (of_id objects) (ids_above group sibling)))) (sym same)
+  pub next_made : {all start now : ℕ} (new : ℕ) → MakesAtMost (length one) now new → ((end : ℕ) → MakesAtMost (length (clipped_of (ids_from group at))) now end → MakesAtMost all start end)
+      → (end : ℕ) → MakesAtMost (length (clipped_of later)) new end → MakesAtMost all start end
+  next_made {now = now} new first so_far end rest =
+      let size : length (clipped_of (ids_from group at)) ≡ length one + length (clipped_of later) =
+      ap (λ ids. length (clipped_of ids)) from_here ∙ length-chosen (of_id objects) (is_clipped_by id) sibling later
+      ∙ ap (λ objects. length (filter (is_clipped_by id) (option_to_list (of_id objects sibling))) + length (clipped_of later)) (sym same) in
+      so_far end (subst (λ n. MakesAtMost n now end) (sym size) (makes_both first rest))
 
-  pub next_made : (now new end : ℕ) → new ≤ now + length (filter (is_clipped_by id) (option_to_list (of_id objects' sibling))) → now + length (clipped_from at) ≤ end → new + length (clipped_from at') ≤ end
-  next_made now new end is so_far =
-      let first = first_length in
-      let rest : length (clipped_from at') ≡ length (filter (is_clipped_by id) (filter_map (of_id objects) (ids_above group sibling))) = ap (λ ids. length (filter (is_clipped_by id) (filter_map (of_id objects) ids))) next in
-      omega (arith, first, rest, is, so_far)
-
-  pub next_fewer : length (ids_from group at') < length (ids_from group at)
-  next_fewer =
-      let more : length (ids_from group at) ≡ suc (length (ids_above group sibling)) = ap (λ at. length (ids_from group at)) here in
-      let rest : length (ids_from group at') ≡ length (ids_above group sibling) = ap length next in
-      omega (arith, more, rest)
-
--- where there is no room for the next
-pub stopped_made : (objects : List (Option Object)) (group : List (ℕ × ℤ)) (id : ℕ) (at : Option ℕ) (sibling : ℕ) (objects' : List (Option Object)) → objects' ≡ objects → at ≡ Some sibling
-    → (now new end : ℕ) → new ≤ now + length (filter (is_clipped_by id) (option_to_list (of_id objects' sibling))) → now + length (filter (is_clipped_by id) (filter_map (of_id objects) (ids_from group at))) ≤ end → new ≤ end
-stopped_made objects group id at sibling objects' same here now new end is so_far =
-    let first = ap (λ at. length (filter (is_clipped_by id) (filter_map (of_id objects) (ids_from group at)))) here ∙ length-chosen (of_id objects) (is_clipped_by id) sibling (ids_above group sibling) in
-    let one : new ≤ now + length (filter (is_clipped_by id) (option_to_list (of_id objects sibling))) = subst (λ objects. new ≤ now + length (filter (is_clipped_by id) (option_to_list (of_id objects sibling)))) same is in
-    omega (arith, first, one, so_far)
+  pub next_fewer : length later < length (ids_from group at)
+  next_fewer = let more = ap length from_here in omega (arith, more)
 
 -- and at the end
 pub all_states : (objects : List (Option Object)) (group : List (ℕ × ℤ)) (id : ℕ) (at : Option ℕ) → at ≡ None → (now end : List Object)
@@ -177,23 +171,9 @@ module _ {w h : ℕ} {objects : List (Option Object)} {groups : List (List (ℕ 
 
 -- each of the new states is of an object that is there
 module _ {w h : ℕ} (states : List (Option (Held Object))) {groups : List (List (ℕ × ℤ))} {ties : Ties} (whole : IsWhole (record { w = w; h = h; objects = values_of states; groups = groups }) ties) (o : Object) where
-  named_still : (p : Object) → of_id (values_of states) p.id ≡ Some p → name_at states p.id ≡ Some p.name
-  named_still p at = go (of_id states p.id) (sym (of_id_map value_of states p.id) ∙ at)
-    where
-      go : (f : Option (Held Object)) → option_map value_of f ≡ Some p → option_map (λ s. s.value.name) f ≡ Some p.name
-      go None e = absurd (none-some p e)
-      go (Some s) e = ap (option_map (λ (p : Object). p.name)) e
-
   pub released_states : (items : List (Held Object)) → map value_of items ≡ map (apply (change.Clip None)) (clipped_by (record { w = w; h = h; objects = values_of states; groups = groups }) o)
       → (now : List (Option (Held Object))) → now ≡ states → All (IsStateOf now) items
   released_states items made now still =
-      subst (λ now. All (IsStateOf now) items) (sym still) (of_values items
-      (subst (All (λ p. name_at states p.id ≡ Some p.name)) (sym made)
-      (All-map (λ p. name_at states p.id ≡ Some p.name) (apply (change.Clip None)) (filter (is_clipped_by o.id) (filter_map (of_id (values_of states)) (siblings groups o.parent)))
-      (All-filter (is_clipped_by o.id) (λ p. name_at states p.id ≡ Some p.name) (filter_map (of_id (values_of states)) (siblings groups o.parent))
-      (λ k d low. named_still _ (listed_stand (values_of states) whole.own (siblings groups o.parent) k d low))))))
-    where
-      of_values : (items : List (Held Object)) → All (λ p. name_at states p.id ≡ Some p.name) (map value_of items) → All (IsStateOf states) items
-      of_values [] all k d low = absurd (omega (arith, low))
-      of_values (s ∷ items) all zero d low = all 0 s.value (omega arith)
-      of_values (s ∷ items) all (suc k) d low = of_values items (λ k d low. all (suc k) d (omega (arith, low))) k d (omega (arith, low))
+      subst (λ now. All (IsStateOf now) items) (sym still) (shift.all_states states (apply (change.Clip None)) (λ o. refl) (λ o. refl) items _ made
+      (All-filter (is_clipped_by o.id) (λ p. of_id (values_of states) p.id ≡ Some p) (filter_map (of_id (values_of states)) (siblings groups o.parent))
+      (listed_stand (values_of states) whole.own (siblings groups o.parent))))

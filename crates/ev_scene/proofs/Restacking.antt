@@ -18,7 +18,7 @@ in_front id q a t = grind (arith, nat_tests)
 behind : (id q head : ℕ) (a b t later : Option ℤ) → head ≢ id → later ≡ (if q == id then a else t) → (if head == q then b else later) ≡ (if q == id then a else if head == q then b else t)
 behind id q head a b t later apart e = grind (arith, nat_tests)
 
-layer_in-put_top : (xs : List (ℕ × ℤ)) (id : ℕ) (layer : ℤ) (q : ℕ) → IsApart id xs → layer_in (put_top xs id layer) q ≡ (if q == id then Some layer else layer_in xs q)
+pub layer_in-put_top : (xs : List (ℕ × ℤ)) (id : ℕ) (layer : ℤ) (q : ℕ) → IsApart id xs → layer_in (put_top xs id layer) q ≡ (if q == id then Some layer else layer_in xs q)
 layer_in-put_top [] id layer q apart = in_front id q (Some layer) None
 layer_in-put_top (one ∷ rest) id layer q apart = go (int_lt layer one.1) refl (layer_in-put_top rest id layer q apart.1) where
   go : (b : Bool) → int_lt layer one.1 ≡ b → layer_in (put_top rest id layer) q ≡ (if q == id then Some layer else layer_in rest q)
@@ -97,18 +97,7 @@ module _ (xs : List (ℕ × ℤ)) (id : ℕ) (layer : ℤ) (own : layer_in xs id
     layer_in-placed_below q = rw own (back xs id q layer _ own
         (layer_in-put_below (without xs id) other id layer beside q (apart_without xs id distinct) (layer_in-without xs id other apart ∙ there)))
 
-pub layer_in-pushed : (xs : List (ℕ × ℤ)) (id : ℕ) (layer : ℤ) (q : ℕ) → IsApart id xs → layer_in (put_top xs id layer) q ≡ (if q == id then Some layer else layer_in xs q)
-layer_in-pushed xs id layer q apart = layer_in-put_top xs id layer q apart
-
 -- whatever a move answers, the layers stay
-pub still : {T : Type 0} (order order' moved : List (ℕ × ℤ)) (id : ℕ) (result : Result T StackErr) → result_err result ≡ known_fault order id → OnOk result (order' ≡ moved) → OnErr result (order' ≡ order)
-    → ((layer : ℤ) → layer_in order id ≡ Some layer → (q : ℕ) → layer_in moved q ≡ layer_in order q) → (q : ℕ) → layer_in order' q ≡ layer_in order q
-still order order' moved id (Err cause) fault ok err stay q = ap (λ order. layer_in order q) err
-still order order' moved id (Ok done) fault ok err stay q = go (layer_in order id) refl fault where
-  go : (own : Option ℤ) → layer_in order id ≡ own → None ≡ (if is_some own then None else Some Unknown) → layer_in order' q ≡ layer_in order q
-  go None e f = absurd (none-some Unknown f)
-  go (Some layer) e f = ap (λ order. layer_in order q) ok ∙ stay layer e q
-
 pub still_beside : {T : Type 0} (order order' moved : List (ℕ × ℤ)) (id other : ℕ) (result : Result T StackErr) → result_err result ≡ place_fault order id other → OnOk result (order' ≡ moved) → OnErr result (order' ≡ order)
     → ((layer beside : ℤ) → layer_in order id ≡ Some layer → layer_in order other ≡ Some beside → other ≢ id → (q : ℕ) → layer_in moved q ≡ layer_in order q) → (q : ℕ) → layer_in order' q ≡ layer_in order q
 still_beside order order' moved id other (Err cause) fault ok err stay q = ap (λ order. layer_in order q) err

@@ -4,7 +4,6 @@ use Rattle.std.proofs.lemmas.Bool.{and_parts}
 use Rattle.std.specs.List.{cons_option, list_all}
 use Rattle.std.specs.Option.{option_map, option_and_then, option_to_list}
 use Rattle.std.proofs.Math.Bool.{true≢false}
-use Rattle.std.proofs.Math.Seq.{drop-cons}
 use Rattle.std.proofs.lemmas.Option.{none-some, same_Some}
 use Rattle.std.proofs.lemmas.List.{map-append, length-map, drop_all}
 use Rattle.std.proofs.lemmas.Int.{ints}
@@ -22,7 +21,8 @@ use Rattle.ev_scene.specs.Ties.{tie_of, layer_at}
 use Rattle.ev_scene.specs.Whole.{IsWhole}
 use Rattle.ev_scene.specs.declared.change.Change.TheVariants as change
 use Rattle.ev_scene.proofs.Places.{of_id_map, same_slots}
-use Rattle.ev_scene.proofs.Capturing.{all_done}
+use Rattle.ev_scene.proofs.Capturing.{all_done, pick_next}
+use Rattle.ev_scene.proofs.Naming.{name_held}
 use Rattle.ev_scene.proofs.Spreading.{spread_at, length-spread, listed_stand, has_listed}
 use Rattle.ev_scene.proofs.Standing.{IsSameStand}
 
@@ -41,19 +41,14 @@ module _ {A : Type 0} (test : A → Bool) where
   -- one more id
   pub next_passes : (find : ℕ → Option A) (ids : List ℕ) (i d : ℕ) → i < length ids
       → list_all test (filter_map find (drop i ids)) ≡ (list_all test (option_to_list (find (get_or ids i d))) && list_all test (filter_map find (drop (i + 1) ids)))
-  next_passes find ids i d low =
-      let k : suc i ≡ i + 1 = omega arith in
-      ap (λ ids. list_all test (filter_map find ids)) (drop-cons ids i d low) ∙ cons_passes (find (get_or ids i d)) (filter_map find (drop (suc i) ids))
-      ∙ ap (λ k. list_all test (option_to_list (find (get_or ids i d))) && list_all test (filter_map find (drop k ids))) k
+  next_passes find ids i d low = ap (list_all test) (pick_next find ids i d low) ∙ cons_passes (find (get_or ids i d)) (filter_map find (drop (i + 1) ids))
 
 -- what is made of one more id's object, on top of what is made so far
 pub one_more_made : {A B : Type 0} (find : ℕ → Option A) (f : A → B) (ids : List ℕ) (i d : ℕ) (so_far now all : List B) → i < length ids → now ≡ so_far ++ map f (option_to_list (find (get_or ids i d)))
     → so_far ++ map f (filter_map find (drop i ids)) ≡ all → now ++ map f (filter_map find (drop (i + 1) ids)) ≡ all
 one_more_made find f ids i d so_far now all low e so =
-    let k : suc i ≡ i + 1 = omega arith in
     let rest : map f (filter_map find (drop i ids)) ≡ map f (option_to_list (find (get_or ids i d))) ++ map f (filter_map find (drop (i + 1) ids)) =
-    ap (λ ids. map f (filter_map find ids)) (drop-cons ids i d low) ∙ split (find (get_or ids i d)) (filter_map find (drop (suc i) ids))
-    ∙ ap (λ k. map f (option_to_list (find (get_or ids i d))) ++ map f (filter_map find (drop k ids))) k in
+    ap (map f) (pick_next find ids i d low) ∙ split (find (get_or ids i d)) (filter_map find (drop (i + 1) ids)) in
     ap (λ now. now ++ map f (filter_map find (drop (i + 1) ids))) e ∙ append_assoc so_far (map f (option_to_list (find (get_or ids i d)))) (map f (filter_map find (drop (i + 1) ids)))
     ∙ ap (λ rest. so_far ++ rest) (sym rest) ∙ so
   where
@@ -104,12 +99,8 @@ all_states states f id name (s ∷ items) (o ∷ objects) e there k d low =
       first : s.value ≡ f o
       first = ap head e
 
-      named_there : (slot : Option (Held Object)) → option_map value_of slot ≡ Some o → option_map (λ s. s.value.name) slot ≡ Some o.name
-      named_there None e = absurd (none-some o e)
-      named_there (Some t) e = ap (λ o. Some o.name) (same_Some _ _ e)
-
       here : IsStateOf states s
-      here = ap (name_at states) (ap (λ o. o.id) first ∙ id o) ∙ named_there (of_id states o.id) (sym (of_id_map value_of states o.id) ∙ there 0 o (omega arith)) ∙ ap Some (sym (ap (λ o. o.name) first ∙ name o))
+      here = ap (name_at states) (ap (λ o. o.id) first ∙ id o) ∙ name_held states o.id o (there 0 o (omega arith)) ∙ ap Some (sym (ap (λ o. o.name) first ∙ name o))
 
       go : (k : ℕ) (d : Held Object) → k < length (s ∷ items) → All (IsStateOf states) items → IsStateOf states (get_or (s ∷ items) k d)
       go zero d low rest = here

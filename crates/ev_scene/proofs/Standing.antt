@@ -34,7 +34,7 @@ use Rattle.ev_scene.specs.declared.writing.Writing.TheVariants as writing
 use Rattle.ev_scene.specs.declared.change.Change.{Change}
 use Rattle.ev_scene.specs.declared.change.Change.TheVariants as change
 use Rattle.ev_scene.proofs.Apart.{apart_absent}
-use Rattle.ev_scene.proofs.Restacking.{layer_in-raised, layer_in-lowered, layer_in-relayered, layer_in-placed_above, layer_in-placed_below, layer_in-gone, layer_in-pushed, still_beside}
+use Rattle.ev_scene.proofs.Restacking.{layer_in-raised, layer_in-lowered, layer_in-relayered, layer_in-placed_above, layer_in-placed_below, layer_in-gone, layer_in-put_top, still_beside}
 use Rattle.std.specs.Cmp.{nat_cmp_total}
 use Rattle.ev_links.specs.Calls.{with_clipper, with_parent, put_tie, Drops, known_fault}
 use Rattle.ev_links.specs.declared.refusal.LinkErr.{LinkErr}
@@ -306,7 +306,7 @@ module _ {w h : ℕ} {objects : List (Option Object)} {groups : List (List (ℕ 
       into : (at q : ℕ) → at ≡ place to → layer_in (put_top (group groups to) id o.layer) q ≡ (if q == id then layer_at at (apply (change.Enter to) o) else layer_in (get_or groups at []) q)
       into at q here =
           let same : (place to == at) ≡ true = grind (arith, nat_tests, here) in
-          layer_in-pushed (group groups to) id o.layer q apart ∙ ap₂ (λ mine other. if q == id then mine else other) (ap (λ b. if b then Some o.layer else None) (sym same)) (ap (λ at. layer_in (get_or groups at []) q) (sym here))
+          layer_in-put_top (group groups to) id o.layer q apart ∙ ap₂ (λ mine other. if q == id then mine else other) (ap (λ b. if b then Some o.layer else None) (sym same)) (ap (λ at. layer_in (get_or groups at []) q) (sym here))
 
       elsewhere : (at q : ℕ) → at ≢ place o.parent → at ≢ place to → layer_in (get_or groups at []) q ≡ (if q == id then layer_at at (apply (change.Enter to) o) else layer_in (get_or groups at []) q)
       elsewhere at q far near = elim (eqb_tells q id) [
@@ -431,7 +431,7 @@ module _ {w h : ℕ} {objects : List (Option Object)} {groups : List (List (ℕ 
       layers at q =
           let some : 0 < length groups = let e = whole.grouped in omega (arith, e) in
           ap (λ g. layer_in g q) (get_set groups 0 at (put_top (group groups None) id (pos 0)) [] some) ∙ elim (eqb_tells at 0) [
-            | inl here ↦ rw here.0 (layer_in-pushed (group groups None) id (pos 0) q (apart_absent (group groups None) id (absent 0))
+            | inl here ↦ rw here.0 (layer_in-put_top (group groups None) id (pos 0) q (apart_absent (group groups None) id (absent 0))
                 ∙ ap₂ (λ mine other. if q == id then mine else other) (own_layer at here.1) (ap (λ at. layer_in (get_or groups at []) q) (sym here.1) ∙ whole.stands at q))
             | inr away ↦ rw away.0 (whole.stands at q ∙ elim (eqb_tells q id) [
               | inl same ↦ rw same.0 (ap (λ q. option_and_then (layer_at at) (of_id objects q)) same.1 ∙ sym (whole.stands at id) ∙ absent at ∙ nowhere at away.1)

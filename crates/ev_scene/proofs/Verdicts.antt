@@ -25,6 +25,7 @@ use Rattle.ev_scene.specs.Ties.{tie_of, ties_of}
 use Rattle.ev_scene.specs.Whole.{IsWhole}
 use Rattle.ev_scene.specs.declared.change.Change.{Change}
 use Rattle.ev_scene.specs.declared.change.Change.TheVariants as change
+use Rattle.ev_scene.proofs.Naming.{held_at}
 use Rattle.ev_scene.proofs.Places.{of_id_map}
 use Rattle.ev_scene.proofs.Trees.{live_found}
 
@@ -66,10 +67,7 @@ wanting verdict old after new (Err cause) e f g = (subst (λ verdict. Refuses ve
 
 -- what has an object has a state
 pub has_state : (states : List (Option (Held Object))) (id : ℕ) (o : Object) → of_id (values_of states) id ≡ Some o → is_some (of_id states id) ≡ true
-has_state states id o there = go (of_id states id) (sym (of_id_map value_of states id) ∙ there) where
-  go : (s : Option (Held Object)) → option_map value_of s ≡ Some o → is_some s ≡ true
-  go None e = absurd (none-some o e)
-  go (Some s) e = refl
+has_state states id o there = ap is_some (held_at states id o there).1.0
 
 homed_nowhere : (b : Board) (o : Object) → homed None b o ≡ (if is_some o.parent then rehomed None b o else b)
 homed_nowhere b o = go o.parent where

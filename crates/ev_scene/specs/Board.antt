@@ -1,5 +1,5 @@
 -- A scene, as its edits see it.
-use Rattle.std.specs.Prelude.{ℕ, ℤ, Bool, List, [], ◌∷◌, map, filter_map, find, length, if◌then◌else◌, Option, Some, None, option_map}
+use Rattle.std.specs.Prelude.{ℕ, ◌+◌, ◌≤◌, ℤ, Bool, List, [], ◌∷◌, map, filter_map, find, length, if◌then◌else◌, Option, Some, None, option_map}
 use Rattle.std.specs.Str.{bytes_eq}
 use Rattle.ev_state.specs.Held.{Held}
 use Rattle.ev_model.specs.Order.{in_order}
@@ -27,6 +27,11 @@ pub record Kept : Type 0 where
   pub made : ℕ
   pub states : List (Option (Held Object))
   pub groups : List (List (ℕ × ℤ))
+
+-- from one count of states to another at most so many were made
+pub record MakesAtMost (few old new : ℕ) : Type 0 where
+  pub grows : old ≤ new
+  pub bound : new ≤ old + few
 
 abbrev pub values_of : List (Option (Held Object)) → List (Option Object)
 values_of states = map (λ slot. option_map value_of slot) states

@@ -26,6 +26,8 @@ use Rattle.ev_scene.specs.declared.drawing.Drawing.TheVariants as drawing
 use Rattle.ev_scene.specs.declared.writing.Writing.TheVariants as writing
 use Rattle.ev_scene.specs.declared.change.Change.{Change}
 use Rattle.ev_scene.specs.declared.change.Change.TheVariants as change
+use Rattle.ev_scene.specs.declared.change.Target.{Target}
+use Rattle.ev_scene.specs.declared.change.Target.TheVariants as target
 
 -- refused, unless a test holds
 abbrev pub unless : Bool → Refusal → Option Refusal
@@ -71,17 +73,20 @@ abbrev pub is_image : Content → Bool
 is_image (content.Image part) = true
 is_image other = false
 
--- only an image object draws an image, by numbers in range
-abbrev pub image_verdict : Bool → Object → Option Refusal
-image_verdict in_range o = if not (is_image o.content) then Some refusal.Kind else unless in_range refusal.Range
-
 abbrev pub is_text : Content → Bool
 is_text (content.Text part) = true
 is_text other = false
 
--- only a text object says something
-abbrev pub text_verdict : Object → Option Refusal
-text_verdict o = unless (is_text o.content) refusal.Kind
+-- whether a change is for an object
+abbrev pub is_target : Target → Object → Bool
+is_target target.Any o = true
+is_target target.Painted o = not (is_smart o)
+is_target target.Image o = is_image o.content
+is_target target.Text o = is_text o.content
+
+-- only an object that a change is for looks different by it, by numbers in range
+abbrev pub look_verdict : Target → Bool → Object → Option Refusal
+look_verdict target in_range o = if not (is_target target o) then Some refusal.Kind else unless in_range refusal.Range
 
 -- a new object needs a free name, and fewer than 65,536 objects that are there
 abbrev pub make_verdict : Board → List ℕ → Option Refusal
@@ -93,10 +98,10 @@ verdict board (edit.Size w h) = unless (is_canvas w h) refusal.Range
 verdict board (edit.Make name kind) = make_verdict board name
 verdict board (edit.Delete name) = known board name (λ o. None)
 verdict board (edit.Move name x y) = known board name (move_verdict x y board)
-verdict board (edit.Resize name w h) = known board name (λ o. unless (is_side w && is_side h) refusal.Range)
-verdict board (edit.Show name on) = known board name (λ o. None)
-verdict board (edit.Color name r g b a) = known board name (λ o. unless (are_channels r g b a) refusal.Range)
-verdict board (edit.SetOp name op) = known board name (λ o. unless (not (is_smart o)) refusal.Kind)
+verdict board (edit.Resize name w h) = known board name (look_verdict target.Any (is_side w && is_side h))
+verdict board (edit.Show name on) = known board name (look_verdict target.Any true)
+verdict board (edit.Color name r g b a) = known board name (look_verdict target.Any (are_channels r g b a))
+verdict board (edit.SetOp name op) = known board name (look_verdict target.Painted true)
 verdict board (edit.Layer name layer) = known board name (λ o. unless (is_layer layer) refusal.Range)
 verdict board (edit.Raise name up) = known board name (λ o. None)
 verdict board (edit.Place name other above) = known board name (λ o. known board other (beside o))
@@ -104,13 +109,13 @@ verdict board (edit.Clip name clipper) = known board name (λ o. known board cli
 verdict board (edit.Unclip name) = known board name (λ o. None)
 verdict board (edit.Member name smart) = known board name (λ o. known board smart (join_verdict board o))
 verdict board (edit.Free name) = known board name (leave_verdict board)
-verdict board (edit.File name key) = known board name (image_verdict true)
-verdict board (edit.Font name key) = known board name text_verdict
-verdict board (edit.Say name text) = known board name text_verdict
-verdict board (edit.Fill name x y w h) = known board name (image_verdict (is_fill x y w h))
-verdict board (edit.Filled name) = known board name (image_verdict true)
-verdict board (edit.Border name l r t b) = known board name (image_verdict (is_border l r t b))
-verdict board (edit.Center name on) = known board name (image_verdict true)
+verdict board (edit.File name key) = known board name (look_verdict target.Image true)
+verdict board (edit.Font name key) = known board name (look_verdict target.Text true)
+verdict board (edit.Say name text) = known board name (look_verdict target.Text true)
+verdict board (edit.Fill name x y w h) = known board name (look_verdict target.Image (is_fill x y w h))
+verdict board (edit.Filled name) = known board name (look_verdict target.Image true)
+verdict board (edit.Border name l r t b) = known board name (look_verdict target.Image (is_border l r t b))
+verdict board (edit.Center name on) = known board name (look_verdict target.Image true)
 
 -- what is made of the object of a name; where there is none, nothing changes
 abbrev pub with_named : Board → List ℕ → (Object → Board) → Board

@@ -4,6 +4,7 @@ ghost use Rattle.ev_geom.specs.Area.{is_place, is_side};
 ghost use Rattle.ev_model.specs.declared.content.Content.TheVariants as content;
 ghost use Rattle.ev_model.specs.declared.content.Kind.TheVariants as kind;
 ghost use Rattle.ev_scene.specs.Change.{apply, is_between, is_layer, is_channel, are_channels, color_of, fresh, content_of, IsFit, IsLook};
+ghost use Rattle.ev_scene.specs.Edits.{is_target};
 
 use crate::NoMemory;
 use crate::drawing::{Drawing, draw};
@@ -26,6 +27,29 @@ pub enum Change {
     Lift(i64),
     Clip(Option<u64>),
     Enter(Option<u64>),
+}
+
+// The objects that a change is for.
+#[derive(Clone, Copy)]
+pub enum Target {
+    Any,
+    Painted,
+    Image,
+    Text,
+}
+
+impl Target {
+    // Whether an object is one of them.
+    pub fn has(self, object: &Object) -> bool
+        ensures { result ≡ is_target self object.now }
+    {
+        match self {
+            Target::Any => true,
+            Target::Painted => !object.is_smart(),
+            Target::Image => matches!(object.content, Content::Image(_)),
+            Target::Text => matches!(object.content, Content::Text(_)),
+        }
+    }
 }
 
 // Changes an object.

@@ -1,5 +1,5 @@
 // Deletes.
-ghost use Rattle.std.specs.Prelude.{◌≡◌, ℕ, ◌+◌, ◌≤◌, List, ◌++◌, length, map, filter, filter_map, option_to_list, None, OnOk, OnErr, IfErr, IfOk, Option, Some, true, false, if◌then◌else◌};
+ghost use Rattle.std.specs.Prelude.{◌≡◌, ℕ, ◌+◌, List, ◌++◌, length, map, filter, filter_map, option_to_list, None, OnOk, OnErr, IfErr, IfOk, Option, Some, true, false, if◌then◌else◌};
 ghost use Rattle.std.specs.FinMap.{get};
 ghost use Rattle.ev_model.specs.Up.{is_smart, is_clipped_by};
 ghost use Rattle.ev_model.specs.declared.object.Object.{Object};
@@ -7,7 +7,7 @@ ghost use Rattle.ev_model.specs.declared.command.Edit.TheVariants as edit;
 ghost use Rattle.ev_links.specs.Ties.{parent_at, has};
 ghost use Rattle.ev_groups.specs.Groups.{siblings};
 ghost use Rattle.ev_scene.specs.Slots.{of_id, value_of};
-ghost use Rattle.ev_scene.specs.Board.{values_of, inside};
+ghost use Rattle.ev_scene.specs.Board.{values_of, inside, MakesAtMost};
 ghost use Rattle.ev_scene.specs.Cast.{IsCast, IsSameButRoll, kept_of, board_of};
 ghost use Rattle.ev_scene.specs.Change.{apply};
 ghost use Rattle.ev_scene.specs.Edits.{Edits, IsLeft, deleted, emptied, clipped_by, writes};
@@ -18,7 +18,7 @@ use crate::cast::Cast;
 use crate::roll::Roll;
 use crate::stacking::remove_from;
 use ev_groups::Groups;
-use ev_model::{Content, Name, Object, Refusal};
+use ev_model::{Name, Object, Refusal};
 use ev_state::{Copied, Shared};
 
 impl Cast {
@@ -28,14 +28,13 @@ impl Cast {
         ensures whole { IsCast self.new }
         ensures edits { Edits (board_of self.old) (edit.Delete name.now) result (board_of self.new) }
         ensures refused { IfErr result (λ cause. IsLeft (kept_of self.old) cause (kept_of self.new)) }
-        ensures made { self.new.roll.made ≤ self.old.roll.made + writes (board_of self.old) (edit.Delete name.now) }
-        ensures grows { self.old.roll.made ≤ self.new.roll.made }
+        ensures made { MakesAtMost (writes (board_of self.old) (edit.Delete name.now)) self.old.roll.made self.new.roll.made }
     {
         let Some(object) = self.roll.named(name) else {
             return Err(Refusal::Unknown);
         };
         let (id, parent) = (object.id, object.parent);
-        if is_smart(object) {
+        if object.is_smart() {
             self.delete_group(id, parent)?;
         } else {
             self.delete_one(id, parent)?;
@@ -68,8 +67,8 @@ impl Cast {
         ensures whole { IsCast self.new }
         ensures ok { OnOk result ((o : Object) → of_id (values_of self.old.roll.states) id ≡ Some o → board_of self.new ≡ deleted (board_of self.old) o) }
         ensures err { OnErr result (kept_of self.new ≡ record (kept_of self.old) { made = self.new.roll.made }) }
-        ensures made { (o : Object) → of_id (values_of self.old.roll.states) id ≡ Some o → self.new.roll.made ≤ self.old.roll.made + length (clipped_by (board_of self.old) o) }
-        ensures grows { self.old.roll.made ≤ self.new.roll.made }
+        ensures made { (o : Object) → of_id (values_of self.old.roll.states) id ≡ Some o
+            → MakesAtMost (length (clipped_by (board_of self.old) o)) self.old.roll.made self.new.roll.made }
     {
         let released = self.released(id, parent)?;
         self.tell_ties();
@@ -91,8 +90,8 @@ impl Cast {
             → map value_of states.items ≡ map (apply (change.Clip None)) (clipped_by (board_of self.old) o)) }
         ensures same { self.new.roll.states ≡ self.old.roll.states }
         ensures rest { IsSameButRoll self.old self.new }
-        ensures made { (o : Object) → of_id (values_of self.old.roll.states) id ≡ Some o → self.new.roll.made ≤ self.old.roll.made + length (clipped_by (board_of self.old) o) }
-        ensures grows { self.old.roll.made ≤ self.new.roll.made }
+        ensures made { (o : Object) → of_id (values_of self.old.roll.states) id ≡ Some o
+            → MakesAtMost (length (clipped_by (board_of self.old) o)) self.old.roll.made self.new.roll.made }
     {
         if self.links.below_of(id) == 0 {
             return Ok(Vec::new(self.roll.alloc()));
@@ -142,8 +141,7 @@ fn released_beside(
     ensures states { IfOk result (λ states. map value_of states.items
         ≡ map (apply (change.Clip None)) (filter (is_clipped_by id) (filter_map (of_id (values_of roll.old.states)) (siblings groups.now parent)))) }
     ensures same { roll.new.states ≡ roll.old.states }
-    ensures made { roll.new.made ≤ roll.old.made + length (filter (is_clipped_by id) (filter_map (of_id (values_of roll.old.states)) (siblings groups.now parent))) }
-    ensures grows { roll.old.made ≤ roll.new.made }
+    ensures made { MakesAtMost (length (filter (is_clipped_by id) (filter_map (of_id (values_of roll.old.states)) (siblings groups.now parent)))) roll.old.made roll.new.made }
 {
     let mut states = Vec::new(roll.alloc());
     let siblings = groups.group(parent);
@@ -165,30 +163,14 @@ fn release(
     ensures states { OnOk result (map value_of states.new.items ≡ map value_of states.old.items
         ++ map (apply (change.Clip None)) (filter (is_clipped_by clipper) (option_to_list (of_id (values_of roll.old.states) id)))) }
     ensures same { roll.new.states ≡ roll.old.states }
-    ensures made { roll.new.made ≤ roll.old.made + length (filter (is_clipped_by clipper) (option_to_list (of_id (values_of roll.old.states) id))) }
-    ensures grows { roll.old.made ≤ roll.new.made }
+    ensures made { MakesAtMost (length (filter (is_clipped_by clipper) (option_to_list (of_id (values_of roll.old.states) id)))) roll.old.made roll.new.made }
 {
     if let Some(object) = roll.object(id) {
-        if is_clipped_by(clipper, object) {
+        if object.is_clipped_by(clipper) {
             let mut copy = object.copied()?;
             copy.clipper = None;
             states.push(roll.make(copy)?)?;
         }
     }
     Ok(())
-}
-
-fn is_clipped_by(id: u64, object: &Object) -> bool
-    ensures { result ≡ is_clipped_by id object.now }
-{
-    match object.clipper {
-        Some(clipper) => clipper == id,
-        None => false,
-    }
-}
-
-pub fn is_smart(object: &Object) -> bool
-    ensures { result ≡ is_smart object.now }
-{
-    matches!(object.content, Content::Smart)
 }

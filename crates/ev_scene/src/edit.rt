@@ -1,17 +1,18 @@
 // Edits of a scene.
-ghost use Rattle.std.specs.Prelude.{◌≡◌, ℕ, ◌+◌, ◌≤◌, true, is_some, IfSome, OnOk, IfErr, None, if◌then◌else◌};
+ghost use Rattle.std.specs.Prelude.{◌≡◌, ℕ, true, is_some, IfSome, OnOk, IfErr, None, if◌then◌else◌};
 ghost use Rattle.std.specs.Option.{ForSome};
 ghost use Rattle.ev_model.specs.Limits.{IsEdit};
 ghost use Rattle.ev_model.specs.declared.command.Edit.TheVariants as edit;
-ghost use Rattle.ev_model.specs.declared.refusal.Refusal.TheVariants as refusal;
+ghost use Rattle.ev_scene.specs.Board.{MakesAtMost};
 ghost use Rattle.ev_scene.specs.Cast.{IsCast, kept_of, board_of};
 ghost use Rattle.ev_scene.specs.Change.{IsLook};
-ghost use Rattle.ev_scene.specs.Edits.{known, unless, image_verdict, with_named, changed, Refuses, Edits, IsLeft, writes};
+ghost use Rattle.ev_scene.specs.Edits.{known, look_verdict, with_named, changed, Refuses, Edits, IsLeft, writes};
 
 use crate::cast::Cast;
-use crate::change::{Change, fresh, is_between, paint, side};
+use crate::change::{Change, Target, fresh, is_between, paint, side};
 use crate::drawing::{Drawing, border, fill};
-use ev_model::{Content, Edit, Fill, Kind, Name, Op, Refusal};
+use crate::writing::Writing;
+use ev_model::{Edit, Fill, Kind, Name, Refusal};
 
 /// How many objects may be there at a time.
 pub const MAX_OBJECTS: usize = 65_536;
@@ -24,18 +25,21 @@ impl Cast {
         ensures whole { IsCast self.new }
         ensures edits { Edits (board_of self.old) edit.now result (board_of self.new) }
         ensures refused { IfErr result (λ cause. IsLeft (kept_of self.old) cause (kept_of self.new)) }
-        ensures made { self.new.roll.made ≤ self.old.roll.made + writes (board_of self.old) edit.now }
-        ensures grows { self.old.roll.made ≤ self.new.roll.made }
+        ensures made { MakesAtMost (writes (board_of self.old) edit.now) self.old.roll.made self.new.roll.made }
     {
         match edit {
             Edit::Size { w, h } => self.resize_canvas(*w, *h),
             Edit::Make { name, kind } => self.make(name, *kind),
             Edit::Delete { name } => self.delete(name),
             Edit::Move { name, x, y } => self.shift(name, *x, *y),
-            Edit::Resize { name, w, h } => self.change(name, side(*w, *h)),
-            Edit::Show { name, on } => self.change(name, Some(Change::Appear(*on))),
-            Edit::Color { name, r, g, b, a } => self.change(name, paint(*r, *g, *b, *a)),
-            Edit::SetOp { name, op } => self.treat(name, *op),
+            Edit::Resize { name, w, h } => self.change(name, Target::Any, side(*w, *h)),
+            Edit::Show { name, on } => { self.change(name, Target::Any, Some(Change::Appear(*on))) }
+            Edit::Color { name, r, g, b, a } => {
+                self.change(name, Target::Any, paint(*r, *g, *b, *a))
+            }
+            Edit::SetOp { name, op } => {
+                self.change(name, Target::Painted, Some(Change::Treat(*op)))
+            }
             Edit::Layer { name, layer } => self.relayer(name, *layer),
             Edit::Raise { name, up } => self.restack(name, *up),
             Edit::Place { name, other, above } => self.place(name, other, *above),
@@ -43,16 +47,31 @@ impl Cast {
             Edit::Unclip { name } => self.unclip(name),
             Edit::Member { name, smart } => self.join(name, smart),
             Edit::Free { name } => self.leave(name),
-            Edit::File { name, key } => self.draw(name, Some(Change::Draw(Drawing::File(*key)))),
-            Edit::Font { name, key } => self.font(name, *key),
+            Edit::File { name, key } => {
+                self.change(name, Target::Image, Some(Change::Draw(Drawing::File(*key))))
+            }
+            Edit::Font { name, key } => {
+                self.change(name, Target::Text, Some(Change::Write(Writing::Font(*key))))
+            }
             Edit::Say { name, text } => self.say(name, text),
-            Edit::Fill { name, x, y, w, h } => self.draw(name, fill(*x, *y, *w, *h)),
-            Edit::Filled { name } => self.draw(
+            Edit::Fill { name, x, y, w, h } => {
+                self.change(name, Target::Image, fill(*x, *y, *w, *h))
+            }
+            Edit::Filled { name } => self.change(
                 name,
+                Target::Image,
                 Some(Change::Draw(Drawing::Fill(Fill::Filled))),
             ),
-            Edit::Border { name, l, r, t, b } => self.draw(name, border(*l, *r, *t, *b)),
-            Edit::Center { name, on } => self.draw(name, Some(Change::Draw(Drawing::Center(*on)))),
+            Edit::Border { name, l, r, t, b } => {
+                self.change(name, Target::Image, border(*l, *r, *t, *b))
+            }
+            Edit::Center { name, on } => {
+                self.change(
+                    name,
+                    Target::Image,
+                    Some(Change::Draw(Drawing::Center(*on))),
+                )
+            }
         }
     }
 
@@ -78,8 +97,7 @@ impl Cast {
         ensures whole { IsCast self.new }
         ensures edits { Edits (board_of self.old) (edit.Make name.now kind) result (board_of self.new) }
         ensures refused { IfErr result (λ cause. IsLeft (kept_of self.old) cause (kept_of self.new)) }
-        ensures made { self.new.roll.made ≤ self.old.roll.made + 1 }
-        ensures grows { self.old.roll.made ≤ self.new.roll.made }
+        ensures made { MakesAtMost 1 self.old.roll.made self.new.roll.made }
     {
         if self.roll.named(name).is_some() {
             return Err(Refusal::Exists);
@@ -103,67 +121,23 @@ impl Cast {
         Ok(())
     }
 
-    // Changes how an object looks. No change stands for numbers out of range.
-    fn change(&mut self, name: &Name, change: Option<Change>) -> Result<(), Refusal>
+    // Changes how an object looks, if it is one that the change is for. No change stands for numbers
+    // out of range.
+    fn change(&mut self, name: &Name, target: Target, change: Option<Change>) -> Result<(), Refusal>
         requires whole { IsCast self.old }
         requires look { ForSome change IsLook }
         ensures whole { IsCast self.new }
-        ensures ok { OnOk result ((known (board_of self.old) name.now (λ o. unless (is_some change) refusal.Range) ≡ None)
+        ensures ok { OnOk result ((known (board_of self.old) name.now (look_verdict target (is_some change)) ≡ None)
             × IfSome change (λ c. board_of self.new ≡ with_named (board_of self.old) name.now (changed c (board_of self.old)))) }
-        ensures err { IfErr result (λ cause. Refuses (known (board_of self.old) name.now (λ o. unless (is_some change) refusal.Range)) cause
+        ensures err { IfErr result (λ cause. Refuses (known (board_of self.old) name.now (look_verdict target (is_some change))) cause
             × (board_of self.new ≡ board_of self.old)) }
         ensures refused { IfErr result (λ cause. IsLeft (kept_of self.old) cause (kept_of self.new)) }
-        ensures made { self.new.roll.made ≤ self.old.roll.made + 1 }
-        ensures grows { self.old.roll.made ≤ self.new.roll.made }
+        ensures made { MakesAtMost 1 self.old.roll.made self.new.roll.made }
     {
         let Some(object) = self.roll.named(name) else {
             return Err(Refusal::Unknown);
         };
-        let id = object.id;
-        let Some(change) = change else {
-            return Err(Refusal::Range);
-        };
-        self.roll.change(id, change)?;
-        Ok(())
-    }
-
-    // The object is blended or copied, if it isn't smart.
-    fn treat(&mut self, name: &Name, op: Op) -> Result<(), Refusal>
-        requires whole { IsCast self.old }
-        ensures whole { IsCast self.new }
-        ensures edits { Edits (board_of self.old) (edit.SetOp name.now op) result (board_of self.new) }
-        ensures refused { IfErr result (λ cause. IsLeft (kept_of self.old) cause (kept_of self.new)) }
-        ensures made { self.new.roll.made ≤ self.old.roll.made + 1 }
-        ensures grows { self.old.roll.made ≤ self.new.roll.made }
-    {
-        let Some(object) = self.roll.named(name) else {
-            return Err(Refusal::Unknown);
-        };
-        if matches!(object.content, Content::Smart) {
-            return Err(Refusal::Kind);
-        }
-        let id = object.id;
-        self.roll.change(id, Change::Treat(op))?;
-        Ok(())
-    }
-
-    // Changes how an image object draws its image. No change stands for numbers out of range.
-    fn draw(&mut self, name: &Name, change: Option<Change>) -> Result<(), Refusal>
-        requires whole { IsCast self.old }
-        requires look { ForSome change IsLook }
-        ensures whole { IsCast self.new }
-        ensures ok { OnOk result ((known (board_of self.old) name.now (image_verdict (is_some change)) ≡ None)
-            × IfSome change (λ c. board_of self.new ≡ with_named (board_of self.old) name.now (changed c (board_of self.old)))) }
-        ensures err { IfErr result (λ cause. Refuses (known (board_of self.old) name.now (image_verdict (is_some change))) cause
-            × (board_of self.new ≡ board_of self.old)) }
-        ensures refused { IfErr result (λ cause. IsLeft (kept_of self.old) cause (kept_of self.new)) }
-        ensures made { self.new.roll.made ≤ self.old.roll.made + 1 }
-        ensures grows { self.old.roll.made ≤ self.new.roll.made }
-    {
-        let Some(object) = self.roll.named(name) else {
-            return Err(Refusal::Unknown);
-        };
-        if !matches!(object.content, Content::Image(_)) {
+        if !target.has(object) {
             return Err(Refusal::Kind);
         }
         let id = object.id;

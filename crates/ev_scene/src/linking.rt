@@ -1,12 +1,12 @@
 // Edits of clippers and parents.
-ghost use Rattle.std.specs.Prelude.{◌≡◌, ◌≢◌, ◌+◌, ◌<◌, ◌≤◌, true, length, is_some, OnOk, OnErr, IfErr, Some, None};
+ghost use Rattle.std.specs.Prelude.{◌≡◌, ◌≢◌, ◌<◌, true, length, is_some, OnOk, OnErr, IfErr, Some, None};
 ghost use Rattle.ev_stack.specs.Order.{layer_in, put_top};
 ghost use Rattle.ev_groups.specs.Groups.{place, group, with_group};
 ghost use Rattle.ev_links.specs.Calls.{with_parent};
 ghost use Rattle.ev_model.specs.declared.object.Object.{Object};
 ghost use Rattle.ev_model.specs.declared.command.Edit.TheVariants as edit;
 ghost use Rattle.ev_scene.specs.Slots.{of_id};
-ghost use Rattle.ev_scene.specs.Board.{values_of};
+ghost use Rattle.ev_scene.specs.Board.{values_of, MakesAtMost};
 ghost use Rattle.ev_scene.specs.Cast.{IsCast, kept_of, board_of};
 ghost use Rattle.ev_scene.specs.Edits.{Edits, IsLeft, rehomed};
 ghost use Rattle.ev_scene.specs.Links.{refusal_of};
@@ -27,8 +27,7 @@ impl Cast {
         ensures whole { IsCast self.new }
         ensures edits { Edits (board_of self.old) (edit.Clip name.now clipper.now) result (board_of self.new) }
         ensures refused { IfErr result (λ cause. IsLeft (kept_of self.old) cause (kept_of self.new)) }
-        ensures made { self.new.roll.made ≤ self.old.roll.made + 1 }
-        ensures grows { self.old.roll.made ≤ self.new.roll.made }
+        ensures made { MakesAtMost 1 self.old.roll.made self.new.roll.made }
     {
         self.tell_ties();
         let Some(object) = self.roll.named(name) else {
@@ -54,8 +53,7 @@ impl Cast {
         ensures whole { IsCast self.new }
         ensures edits { Edits (board_of self.old) (edit.Unclip name.now) result (board_of self.new) }
         ensures refused { IfErr result (λ cause. IsLeft (kept_of self.old) cause (kept_of self.new)) }
-        ensures made { self.new.roll.made ≤ self.old.roll.made + 1 }
-        ensures grows { self.old.roll.made ≤ self.new.roll.made }
+        ensures made { MakesAtMost 1 self.old.roll.made self.new.roll.made }
     {
         let Some(object) = self.roll.named(name) else {
             return Err(Refusal::Unknown);
@@ -74,8 +72,7 @@ impl Cast {
         ensures whole { IsCast self.new }
         ensures edits { Edits (board_of self.old) (edit.Member name.now smart.now) result (board_of self.new) }
         ensures refused { IfErr result (λ cause. IsLeft (kept_of self.old) cause (kept_of self.new)) }
-        ensures made { self.new.roll.made ≤ self.old.roll.made + 1 }
-        ensures grows { self.old.roll.made ≤ self.new.roll.made }
+        ensures made { MakesAtMost 1 self.old.roll.made self.new.roll.made }
     {
         self.tell_ties();
         let Some(object) = self.roll.named(name) else {
@@ -104,8 +101,7 @@ impl Cast {
         ensures whole { IsCast self.new }
         ensures edits { Edits (board_of self.old) (edit.Free name.now) result (board_of self.new) }
         ensures refused { IfErr result (λ cause. IsLeft (kept_of self.old) cause (kept_of self.new)) }
-        ensures made { self.new.roll.made ≤ self.old.roll.made + 1 }
-        ensures grows { self.old.roll.made ≤ self.new.roll.made }
+        ensures made { MakesAtMost 1 self.old.roll.made self.new.roll.made }
     {
         self.tell_ties();
         let Some(object) = self.roll.named(name) else {
@@ -135,8 +131,7 @@ impl Cast {
         ensures whole { OnOk result (IsWhole (board_of self.new) (with_parent self.old.links id to)) }
         ensures err { OnErr result (kept_of self.new ≡ record (kept_of self.old) { made = self.new.roll.made }) }
         ensures links { self.new.links ≡ self.old.links }
-        ensures made { self.new.roll.made ≤ self.old.roll.made + 1 }
-        ensures grows { self.old.roll.made ≤ self.new.roll.made }
+        ensures made { MakesAtMost 1 self.old.roll.made self.new.roll.made }
     {
         let Some(object) = self.roll.object(id) else {
             unreachable!()

@@ -1,9 +1,9 @@
 // What loads of objects fetch and give.
-ghost use Rattle.std.specs.Prelude.{◌≡◌, ◌+◌, ◌≤◌, Some, OnOk, OnErr, option_map};
+ghost use Rattle.std.specs.Prelude.{◌≡◌, Some, OnOk, OnErr, option_map};
 ghost use Rattle.std.specs.Arc.{arc_value};
 ghost use Rattle.ev_model.specs.Content.{kind_of};
 ghost use Rattle.ev_scene.specs.Slots.{of_id, put};
-ghost use Rattle.ev_scene.specs.Board.{values_of};
+ghost use Rattle.ev_scene.specs.Board.{values_of, MakesAtMost};
 ghost use Rattle.ev_scene.specs.Cast.{IsCast, board_of, kept_of};
 ghost use Rattle.ev_scene.specs.Loads.{key_of, with_image, with_font};
 
@@ -41,8 +41,7 @@ impl Cast {
         ensures ok { OnOk result (board_of self.new ≡ with_image (board_of self.old) id number (arc_value image)) }
         ensures alone { OnOk result (self.new.roll.states ≡ put self.old.roll.states id (of_id self.new.roll.states id)) }
         ensures err { OnErr result (kept_of self.new ≡ record (kept_of self.old) { made = self.new.roll.made }) }
-        ensures made { self.new.roll.made ≤ self.old.roll.made + 1 }
-        ensures grows { self.old.roll.made ≤ self.new.roll.made }
+        ensures made { MakesAtMost 1 self.old.roll.made self.new.roll.made }
     {
         let loaded = LoadedImage::new(number, image);
         self.roll.change(id, Change::Draw(Drawing::Load(loaded)))?;
@@ -62,8 +61,7 @@ impl Cast {
         ensures ok { OnOk result (board_of self.new ≡ with_font (board_of self.old) id number (arc_value font)) }
         ensures alone { OnOk result (self.new.roll.states ≡ put self.old.roll.states id (of_id self.new.roll.states id)) }
         ensures err { OnErr result (kept_of self.new ≡ record (kept_of self.old) { made = self.new.roll.made }) }
-        ensures made { self.new.roll.made ≤ self.old.roll.made + 1 }
-        ensures grows { self.old.roll.made ≤ self.new.roll.made }
+        ensures made { MakesAtMost 1 self.old.roll.made self.new.roll.made }
     {
         let loaded = LoadedFont::new(number, font);
         self.roll.change(id, Change::Write(Writing::Load(loaded)))?;

@@ -1,10 +1,10 @@
 // The objects of a scene, by id and by name.
-ghost use Rattle.std.specs.Prelude.{◌≡◌, ℕ, zero, ◌+◌, ◌<◌, ◌≤◌, ◌^◌, ◌++◌, ◌∷◌, [], length, OnOk, OnErr, IfOk, IfSome, Some, None, option_map, option_copied, is_some, true, All, map, if◌then◌else◌};
+ghost use Rattle.std.specs.Prelude.{◌≡◌, ℕ, zero, ◌+◌, ◌<◌, ◌^◌, ◌++◌, ◌∷◌, [], length, OnOk, OnErr, IfOk, IfSome, Some, None, option_map, option_copied, is_some, true, All, map, if◌then◌else◌};
 ghost use Rattle.ev_state.specs.Held.{Held};
 ghost use Rattle.ev_model.specs.declared.object.Object.{Object};
 ghost use Rattle.ev_scene.specs.Slots.{of_id, put, spread, live, value_of};
 ghost use Rattle.ev_scene.specs.Roll.{IsStateOf};
-ghost use Rattle.ev_scene.specs.Board.{named, values_of};
+ghost use Rattle.ev_scene.specs.Board.{named, values_of, MakesAtMost};
 ghost use Rattle.ev_scene.specs.Change.{apply, IsFit};
 
 use crate::NoMemory;
@@ -124,8 +124,7 @@ impl Roll {
         ensures value { IfOk result (λ state. state.value ≡ object) }
         ensures states { self.new.states ≡ self.old.states }
         ensures room { self.new.room ≡ self.old.room }
-        ensures grows { self.old.made ≤ self.new.made }
-        ensures made { self.new.made ≤ self.old.made + 1 }
+        ensures made { MakesAtMost 1 self.old.made self.new.made }
     {
         if self.tally.count() >= MAX_STATES {
             return Err(NoMemory);
@@ -159,8 +158,7 @@ impl Roll {
             ≡ put (values_of self.old.states) id (option_map (apply change) (of_id (values_of self.old.states) id))) }
         ensures alone { OnOk result (self.new.states ≡ put self.old.states id (of_id self.new.states id)) }
         ensures err { OnErr result (self.new.states ≡ self.old.states) }
-        ensures grows { self.old.made ≤ self.new.made }
-        ensures made { self.new.made ≤ self.old.made + 1 }
+        ensures made { MakesAtMost 1 self.old.made self.new.made }
     {
         if self.tally.count() >= MAX_STATES {
             return Err(NoMemory);

@@ -1,10 +1,10 @@
 // A scene that edits change.
-ghost use Rattle.std.specs.Prelude.{◌≡◌, ◌+◌, ◌≤◌, [], ◌∷◌, IfOk, IfErr, IfSome, OnOk, OnErr, option_map, option_and_then, Some, false};
+ghost use Rattle.std.specs.Prelude.{◌≡◌, [], ◌∷◌, IfOk, IfErr, IfSome, OnOk, OnErr, option_map, option_and_then, Some, false};
 ghost use Rattle.std.specs.Arc.{arc_value};
 ghost use Rattle.ev_model.specs.Content.{kind_of};
 ghost use Rattle.ev_model.specs.Limits.{IsEdit};
 ghost use Rattle.ev_scene.specs.Slots.{of_id, put};
-ghost use Rattle.ev_scene.specs.Board.{board, named};
+ghost use Rattle.ev_scene.specs.Board.{board, named, MakesAtMost};
 ghost use Rattle.ev_scene.specs.Edits.{Edits, IsLeft, writes};
 ghost use Rattle.ev_scene.specs.Kinds.{KeepsKinds, is_delete};
 ghost use Rattle.ev_scene.specs.Loads.{key_of, with_image, with_font};
@@ -85,8 +85,7 @@ impl SceneBox {
         ensures edits { Edits (board self.old) edit.now result (board self.new) }
         ensures refused { IfErr result (λ cause. IsLeft self.old cause self.new) }
         ensures keeps { is_delete edit.now ≡ false → KeepsKinds (board self.old) (board self.new) }
-        ensures made { self.new.made ≤ self.old.made + writes (board self.old) edit.now }
-        ensures grows { self.old.made ≤ self.new.made }
+        ensures made { MakesAtMost (writes (board self.old) edit.now) self.old.made self.new.made }
     {
         self.cast.edit(edit)
     }
@@ -103,8 +102,7 @@ impl SceneBox {
         ensures ok { OnOk result (board self.new ≡ with_image (board self.old) id number (arc_value image)) }
         ensures alone { OnOk result (self.new.states ≡ put self.old.states id (of_id self.new.states id)) }
         ensures err { OnErr result (self.new ≡ record self.old { made = self.new.made }) }
-        ensures made { self.new.made ≤ self.old.made + 1 }
-        ensures grows { self.old.made ≤ self.new.made }
+        ensures made { MakesAtMost 1 self.old.made self.new.made }
     {
         self.cast.set_image(id, number, image)
     }
@@ -121,8 +119,7 @@ impl SceneBox {
         ensures ok { OnOk result (board self.new ≡ with_font (board self.old) id number (arc_value font)) }
         ensures alone { OnOk result (self.new.states ≡ put self.old.states id (of_id self.new.states id)) }
         ensures err { OnErr result (self.new ≡ record self.old { made = self.new.made }) }
-        ensures made { self.new.made ≤ self.old.made + 1 }
-        ensures grows { self.old.made ≤ self.new.made }
+        ensures made { MakesAtMost 1 self.old.made self.new.made }
     {
         self.cast.set_font(id, number, font)
     }

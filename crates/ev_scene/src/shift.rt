@@ -1,12 +1,12 @@
 // Moves.
-ghost use Rattle.std.specs.Prelude.{◌≡◌, ℕ, ◌+◌, ◌≤◌, List, ◌++◌, length, map, filter_map, option_to_list, OnOk, OnErr, IfOk, IfErr, Option, Some, None, true, if◌then◌else◌, ◌&&◌, ◌+ℤ◌, ◌-ℤ◌, pos};
+ghost use Rattle.std.specs.Prelude.{◌≡◌, ℕ, ◌+◌, List, ◌++◌, length, map, filter_map, option_to_list, OnOk, OnErr, IfOk, IfErr, Option, Some, None, true, if◌then◌else◌, ◌&&◌, ◌+ℤ◌, ◌-ℤ◌, pos};
 ghost use Rattle.std.specs.List.{list_all};
 ghost use Rattle.ev_geom.specs.Area.{is_place, IsPlace};
 ghost use Rattle.ev_model.specs.Up.{is_smart};
 ghost use Rattle.ev_model.specs.declared.object.Object.{Object};
 ghost use Rattle.ev_model.specs.declared.command.Edit.TheVariants as edit;
 ghost use Rattle.ev_scene.specs.Slots.{of_id, value_of};
-ghost use Rattle.ev_scene.specs.Board.{values_of, inside};
+ghost use Rattle.ev_scene.specs.Board.{values_of, inside, MakesAtMost};
 ghost use Rattle.ev_scene.specs.Cast.{IsCast, kept_of, board_of};
 ghost use Rattle.ev_scene.specs.Edits.{Edits, IsLeft, Refuses, unless, may_shift, shifted_by, shifted_all, objects_in, IsShift, writes};
 ghost use Rattle.ev_model.specs.declared.refusal.Refusal.TheVariants as refusal;
@@ -14,7 +14,6 @@ ghost use Rattle.ev_model.specs.declared.refusal.Refusal.TheVariants as refusal;
 use crate::NoMemory;
 use crate::cast::Cast;
 use crate::change::place;
-use crate::delete::is_smart;
 use crate::roll::Roll;
 use ev_geom::is_place;
 use ev_model::{Name, Object, Refusal};
@@ -27,8 +26,7 @@ impl Cast {
         ensures whole { IsCast self.new }
         ensures edits { Edits (board_of self.old) (edit.Move name.now x y) result (board_of self.new) }
         ensures refused { IfErr result (λ cause. IsLeft (kept_of self.old) cause (kept_of self.new)) }
-        ensures made { self.new.roll.made ≤ self.old.roll.made + writes (board_of self.old) (edit.Move name.now x y) }
-        ensures grows { self.old.roll.made ≤ self.new.roll.made }
+        ensures made { MakesAtMost (writes (board_of self.old) (edit.Move name.now x y)) self.old.roll.made self.new.roll.made }
     {
         let Some(object) = self.roll.named(name) else {
             return Err(Refusal::Unknown);
@@ -37,7 +35,7 @@ impl Cast {
         let Some(change) = place(x, y) else {
             return Err(Refusal::Range);
         };
-        if is_smart(object) {
+        if object.is_smart() {
             let (dx, dy) = (distance(object.rect.x(), x), distance(object.rect.y(), y));
             return self.shift_group(id, dx, dy);
         }
@@ -57,9 +55,9 @@ impl Cast {
         ensures err { IfErr result (λ cause. (o : Object) → of_id (values_of self.old.roll.states) id ≡ Some o
             → Refuses (unless (list_all (may_shift dx dy) (objects_in (board_of self.old) o)) refusal.Range) cause × (board_of self.new ≡ board_of self.old)) }
         ensures refused { IfErr result (λ cause. IsLeft (kept_of self.old) cause (kept_of self.new)) }
-        ensures made { (o : Object) → of_id (values_of self.old.roll.states) id ≡ Some o → self.new.roll.made ≤ self.old.roll.made + length (inside (board_of self.old) o) }
+        ensures made { (o : Object) → of_id (values_of self.old.roll.states) id ≡ Some o
+            → MakesAtMost (length (inside (board_of self.old) o)) self.old.roll.made self.new.roll.made }
         ensures still { dx ≡ pos 0 → dy ≡ pos 0 → self.new.roll.made ≡ self.old.roll.made }
-        ensures grows { self.old.roll.made ≤ self.new.roll.made }
     {
         let Ok(ids) = self.inside(id) else {
             return Err(self.first_cause(id, dx, dy));
@@ -164,8 +162,7 @@ fn shifted(roll: &mut Roll, ids: &[u64], dx: i64, dy: i64) -> Result<Vec<Shared<
     requires places { list_all (may_shift dx dy) (filter_map (of_id (values_of roll.old.states)) ids.now) ≡ true }
     ensures states { IfOk result (λ states. map value_of states.items ≡ map (shifted_by dx dy) (filter_map (of_id (values_of roll.old.states)) ids.now)) }
     ensures same { roll.new.states ≡ roll.old.states }
-    ensures made { roll.new.made ≤ roll.old.made + length ids.now }
-    ensures grows { roll.old.made ≤ roll.new.made }
+    ensures made { MakesAtMost (length ids.now) roll.old.made roll.new.made }
 {
     let mut states = Vec::new(roll.alloc());
     for id in ids {
@@ -188,8 +185,7 @@ fn push_shifted(
     ensures states { OnOk result (map value_of states.new.items ≡ map value_of states.old.items
         ++ map (shifted_by dx dy) (option_to_list (of_id (values_of roll.old.states) id))) }
     ensures same { roll.new.states ≡ roll.old.states }
-    ensures made { roll.new.made ≤ roll.old.made + 1 }
-    ensures grows { roll.old.made ≤ roll.new.made }
+    ensures made { MakesAtMost 1 roll.old.made roll.new.made }
 {
     if let Some(object) = roll.object(id) {
         let mut copy = object.copied()?;

@@ -1,10 +1,11 @@
 // Edits of the order of siblings.
-ghost use Rattle.std.specs.Prelude.{◌≡◌, ℕ, ◌+◌, ◌<◌, ◌≤◌, true, length, OnOk, OnErr, IfErr, Option, Some, None, if◌then◌else◌};
+ghost use Rattle.std.specs.Prelude.{◌≡◌, ℕ, ◌<◌, true, length, OnOk, OnErr, IfErr, Option, Some, None, if◌then◌else◌};
 ghost use Rattle.std.specs.Result.{result_err};
 ghost use Rattle.ev_stack.specs.Order.{is_in, without, IsOrder};
 ghost use Rattle.ev_stack.specs.Calls.{place_fault, raised, lowered, relayered, placed_above, placed_below};
 ghost use Rattle.ev_groups.specs.Groups.{place, group, with_group};
 ghost use Rattle.ev_model.specs.declared.command.Edit.TheVariants as edit;
+ghost use Rattle.ev_scene.specs.Board.{MakesAtMost};
 ghost use Rattle.ev_scene.specs.Cast.{IsCast, kept_of, board_of};
 ghost use Rattle.ev_scene.specs.Edits.{Edits, IsLeft};
 
@@ -21,8 +22,7 @@ impl Cast {
         ensures whole { IsCast self.new }
         ensures edits { Edits (board_of self.old) (edit.Layer name.now layer) result (board_of self.new) }
         ensures refused { IfErr result (λ cause. IsLeft (kept_of self.old) cause (kept_of self.new)) }
-        ensures made { self.new.roll.made ≤ self.old.roll.made + 1 }
-        ensures grows { self.old.roll.made ≤ self.new.roll.made }
+        ensures made { MakesAtMost 1 self.old.roll.made self.new.roll.made }
     {
         let Some(object) = self.roll.named(name) else {
             return Err(Refusal::Unknown);

@@ -1,7 +1,8 @@
 // What a text object says, and by which font.
-ghost use Rattle.std.specs.Prelude.{◌≡◌, ◌+◌, ◌≤◌, IfErr};
+ghost use Rattle.std.specs.Prelude.{◌≡◌, IfErr};
 ghost use Rattle.ev_model.specs.Glyphs.{IsText};
 ghost use Rattle.ev_model.specs.declared.command.Edit.TheVariants as edit;
+ghost use Rattle.ev_scene.specs.Board.{MakesAtMost};
 ghost use Rattle.ev_scene.specs.Cast.{IsCast, kept_of, board_of};
 ghost use Rattle.ev_scene.specs.Change.{write_part, written};
 ghost use Rattle.ev_scene.specs.Edits.{Edits, IsLeft};
@@ -42,26 +43,6 @@ fn write_part(writing: Writing, part: &mut TextPart)
 }
 
 impl Cast {
-    // The text object gets the font of this file, and loses its font.
-    pub fn font(&mut self, name: &Name, key: Name) -> Result<(), Refusal>
-        requires whole { IsCast self.old }
-        ensures whole { IsCast self.new }
-        ensures edits { Edits (board_of self.old) (edit.Font name.now key) result (board_of self.new) }
-        ensures refused { IfErr result (λ cause. IsLeft (kept_of self.old) cause (kept_of self.new)) }
-        ensures made { self.new.roll.made ≤ self.old.roll.made + 1 }
-        ensures grows { self.old.roll.made ≤ self.new.roll.made }
-    {
-        let Some(object) = self.roll.named(name) else {
-            return Err(Refusal::Unknown);
-        };
-        if !matches!(object.content, Content::Text(_)) {
-            return Err(Refusal::Kind);
-        }
-        let id = object.id;
-        self.roll.change(id, Change::Write(Writing::Font(key)))?;
-        Ok(())
-    }
-
     // The text object gets this text.
     pub fn say(&mut self, name: &Name, text: &[u8]) -> Result<(), Refusal>
         requires whole { IsCast self.old }
@@ -69,8 +50,7 @@ impl Cast {
         ensures whole { IsCast self.new }
         ensures edits { Edits (board_of self.old) (edit.Say name.now text.entry) result (board_of self.new) }
         ensures refused { IfErr result (λ cause. IsLeft (kept_of self.old) cause (kept_of self.new)) }
-        ensures made { self.new.roll.made ≤ self.old.roll.made + 1 }
-        ensures grows { self.old.roll.made ≤ self.new.roll.made }
+        ensures made { MakesAtMost 1 self.old.roll.made self.new.roll.made }
     {
         let Some(object) = self.roll.named(name) else {
             return Err(Refusal::Unknown);

@@ -1,8 +1,9 @@
-use Rattle.std.proofs.Common.{map, filter_map, FitsSigned, w64, ap₂, ◌∙◌, arith, rules}
+use Rattle.std.proofs.Common.{map, filter_map, FitsSigned, w64, ap₂, ◌∙◌, rules}
 use Rattle.std.proofs.lemmas.Int.{to_z-of_z}
 use Rattle.ev_scene.specs.Slots.{of_id, value_of}
 use Rattle.ev_scene.specs.Board.{values_of}
 use Rattle.ev_scene.specs.Edits.{shifted_by}
+use Rattle.ev_scene.proofs.Making.{makes_both}
 use Rattle.ev_scene.proofs.Shifting.{still_may, one_more_shifted, all_made}
 use Rattle.ev_scene.proofs.shift.shifted.Goals as goal
 
@@ -10,19 +11,13 @@ pub push_shifted-requires-clause-places : goal.push_shifted-requires-clause-plac
 push_shifted-requires-clause-places c = (still_may _ _ c.args.roll.now.states c.loop-id.roll.states c.args.ids.now c.loop-id.id-index c.loop-id-test.true c.loop-id.invariant.same c.loop-id.invariant.places).0
 
 pub loop-id-preserved : goal.loop-id-preserved
-loop-id-preserved c =
-    let more = (c.in_ok-push_shifted.ensures).made in
-    let far = c.loop-id.invariant.made in
-    let onward = (c.in_ok-push_shifted.ensures).grows in
-    let before = c.loop-id.invariant.grows in
-    record {
-      made_so_far = one_more_shifted _ _ c.args.roll.now.states c.loop-id.roll.states c.args.ids.now c.loop-id.id-index c.loop-id-test.true c.loop-id.invariant.same
-          c.loop-id.states.items c.push_shifted.new.states.items _ (c.in_ok-push_shifted.ensures).states c.loop-id.invariant.made_so_far;
-      places = (still_may _ _ c.args.roll.now.states c.loop-id.roll.states c.args.ids.now c.loop-id.id-index c.loop-id-test.true c.loop-id.invariant.same c.loop-id.invariant.places).1;
-      same = (c.in_ok-push_shifted.ensures).same ∙ c.loop-id.invariant.same;
-      made = omega (arith, more, far);
-      grows = omega (arith, onward, before);
-    }
+loop-id-preserved c = record {
+  made_so_far = one_more_shifted _ _ c.args.roll.now.states c.loop-id.roll.states c.args.ids.now c.loop-id.id-index c.loop-id-test.true c.loop-id.invariant.same
+      c.loop-id.states.items c.push_shifted.new.states.items _ (c.in_ok-push_shifted.ensures).states c.loop-id.invariant.made_so_far;
+  places = (still_may _ _ c.args.roll.now.states c.loop-id.roll.states c.args.ids.now c.loop-id.id-index c.loop-id-test.true c.loop-id.invariant.same c.loop-id.invariant.places).1;
+  same = (c.in_ok-push_shifted.ensures).same ∙ c.loop-id.invariant.same;
+  made = makes_both c.loop-id.invariant.made (c.in_ok-push_shifted.ensures).made;
+}
 
 pub returns-clause-states : goal.returns-clause-states
 returns-clause-states c =

@@ -1,13 +1,15 @@
-use Rattle.std.proofs.Common.{◌+◌, ◌≤◌, ◌&&◌, FitsSigned, w64, sym, subst, rules}
+use Rattle.std.proofs.Common.{◌&&◌, FitsSigned, w64, sym, subst, rules}
 use Rattle.std.proofs.lemmas.Int.{to_z-of_z}
 use Rattle.ev_geom.specs.Area.{is_side}
 use Rattle.ev_model.specs.declared.command.Edit.{Edit}
+use Rattle.ev_scene.specs.Board.{MakesAtMost}
 use Rattle.ev_scene.specs.Cast.{board_of}
 use Rattle.ev_scene.specs.Change.{are_channels, color_of, is_fill, fill_of, is_border, border_of}
 use Rattle.ev_scene.specs.Edits.{Edits, writes}
 use Rattle.ev_scene.specs.declared.change.Change.TheVariants as change
+use Rattle.ev_scene.specs.declared.change.Target.TheVariants as target
 use Rattle.ev_scene.specs.declared.drawing.Drawing.TheVariants as drawing
-use Rattle.ev_scene.proofs.Answering.{change_answers, draw_answers}
+use Rattle.ev_scene.proofs.Answering.{change_answers}
 use Rattle.ev_scene.proofs.cast.Cast.edit.Goals as goal
 
 pub returns-in-Move-clause-edits : goal.returns-in-Move-clause-edits
@@ -21,7 +23,7 @@ pub returns-in-Move-clause-made : goal.returns-in-Move-clause-made
 returns-in-Move-clause-made c =
     let x : FitsSigned w64 c.in-Move.x = search rules in
     let y : FitsSigned w64 c.in-Move.y = search rules in
-    let P : Edit → Type 0 = λ edit. c.shift.new.self.roll.made ≤ c.args.self.now.roll.made + writes (board_of c.args.self.now) edit in
+    let P : Edit → Type 0 = λ edit. MakesAtMost (writes (board_of c.args.self.now) edit) c.args.self.now.roll.made c.shift.new.self.roll.made in
     subst P (sym c.in-Move.is) (simp to_z-of_z at c.shift.ensures.made)
 
 pub returns-in-Resize-clause-edits : goal.returns-in-Resize-clause-edits
@@ -29,7 +31,7 @@ returns-in-Resize-clause-edits c =
     let w : FitsSigned w64 c.in-Resize.w = search rules in
     let h : FitsSigned w64 c.in-Resize.h = search rules in
     let P : Edit → Type 0 = λ edit. Edits (board_of c.args.self.now) edit c.change.result (board_of c.change.new.self) in
-    subst P (sym c.in-Resize.is) (change_answers (board_of c.args.self.now) c.in-Resize.name (is_side c.in-Resize.w && is_side c.in-Resize.h) (change.Side c.in-Resize.w c.in-Resize.h)
+    subst P (sym c.in-Resize.is) (change_answers (board_of c.args.self.now) c.in-Resize.name target.Any (is_side c.in-Resize.w && is_side c.in-Resize.h) (change.Side c.in-Resize.w c.in-Resize.h)
     c.side.result c.change.result (board_of c.change.new.self) (simp to_z-of_z at c.side.ensures.value) c.change.ensures.ok c.change.ensures.err)
 
 pub returns-in-Color-clause-edits : goal.returns-in-Color-clause-edits
@@ -39,7 +41,7 @@ returns-in-Color-clause-edits c =
     let b : FitsSigned w64 c.in-Color.b = search rules in
     let a : FitsSigned w64 c.in-Color.a = search rules in
     let P : Edit → Type 0 = λ edit. Edits (board_of c.args.self.now) edit c.change-in-Color.result (board_of c.change-in-Color.new.self) in
-    subst P (sym c.in-Color.is) (change_answers (board_of c.args.self.now) c.in-Color.name (are_channels c.in-Color.r c.in-Color.g c.in-Color.b c.in-Color.a) (change.Paint (color_of c.in-Color.r c.in-Color.g c.in-Color.b c.in-Color.a))
+    subst P (sym c.in-Color.is) (change_answers (board_of c.args.self.now) c.in-Color.name target.Any (are_channels c.in-Color.r c.in-Color.g c.in-Color.b c.in-Color.a) (change.Paint (color_of c.in-Color.r c.in-Color.g c.in-Color.b c.in-Color.a))
     c.paint.result c.change-in-Color.result (board_of c.change-in-Color.new.self) (simp to_z-of_z at c.paint.ensures.value) c.change-in-Color.ensures.ok c.change-in-Color.ensures.err)
 
 pub returns-in-Layer-clause-edits : goal.returns-in-Layer-clause-edits
@@ -54,9 +56,9 @@ returns-in-Fill-clause-edits c =
     let y : FitsSigned w64 c.in-Fill.y = search rules in
     let w : FitsSigned w64 c.in-Fill.w = search rules in
     let h : FitsSigned w64 c.in-Fill.h = search rules in
-    let P : Edit → Type 0 = λ edit. Edits (board_of c.args.self.now) edit c.draw-in-Fill.result (board_of c.draw-in-Fill.new.self) in
-    subst P (sym c.in-Fill.is) (draw_answers (board_of c.args.self.now) c.in-Fill.name (is_fill c.in-Fill.x c.in-Fill.y c.in-Fill.w c.in-Fill.h) (change.Draw (drawing.Fill (fill_of c.in-Fill.x c.in-Fill.y c.in-Fill.w c.in-Fill.h)))
-    c.fill.result c.draw-in-Fill.result (board_of c.draw-in-Fill.new.self) (simp to_z-of_z at c.fill.ensures.value) c.draw-in-Fill.ensures.ok c.draw-in-Fill.ensures.err)
+    let P : Edit → Type 0 = λ edit. Edits (board_of c.args.self.now) edit c.change-in-Fill.result (board_of c.change-in-Fill.new.self) in
+    subst P (sym c.in-Fill.is) (change_answers (board_of c.args.self.now) c.in-Fill.name target.Image (is_fill c.in-Fill.x c.in-Fill.y c.in-Fill.w c.in-Fill.h) (change.Draw (drawing.Fill (fill_of c.in-Fill.x c.in-Fill.y c.in-Fill.w c.in-Fill.h)))
+    c.fill.result c.change-in-Fill.result (board_of c.change-in-Fill.new.self) (simp to_z-of_z at c.fill.ensures.value) c.change-in-Fill.ensures.ok c.change-in-Fill.ensures.err)
 
 pub returns-in-Border-clause-edits : goal.returns-in-Border-clause-edits
 returns-in-Border-clause-edits c =
@@ -64,6 +66,6 @@ returns-in-Border-clause-edits c =
     let r : FitsSigned w64 c.in-Border.r = search rules in
     let t : FitsSigned w64 c.in-Border.t = search rules in
     let b : FitsSigned w64 c.in-Border.b = search rules in
-    let P : Edit → Type 0 = λ edit. Edits (board_of c.args.self.now) edit c.draw-in-Border.result (board_of c.draw-in-Border.new.self) in
-    subst P (sym c.in-Border.is) (draw_answers (board_of c.args.self.now) c.in-Border.name (is_border c.in-Border.l c.in-Border.r c.in-Border.t c.in-Border.b) (change.Draw (drawing.Border (border_of c.in-Border.l c.in-Border.r c.in-Border.t c.in-Border.b)))
-    c.border.result c.draw-in-Border.result (board_of c.draw-in-Border.new.self) (simp to_z-of_z at c.border.ensures.value) c.draw-in-Border.ensures.ok c.draw-in-Border.ensures.err)
+    let P : Edit → Type 0 = λ edit. Edits (board_of c.args.self.now) edit c.change-in-Border.result (board_of c.change-in-Border.new.self) in
+    subst P (sym c.in-Border.is) (change_answers (board_of c.args.self.now) c.in-Border.name target.Image (is_border c.in-Border.l c.in-Border.r c.in-Border.t c.in-Border.b) (change.Draw (drawing.Border (border_of c.in-Border.l c.in-Border.r c.in-Border.t c.in-Border.b)))
+    c.border.result c.change-in-Border.result (board_of c.change-in-Border.new.self) (simp to_z-of_z at c.border.ensures.value) c.change-in-Border.ensures.ok c.change-in-Border.ensures.err)
