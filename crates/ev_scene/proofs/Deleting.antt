@@ -1,5 +1,5 @@
 -- Objects that go.
-use Rattle.std.proofs.Common.{◌≡◌, ◌≢◌, ℕ, zero, suc, ℤ, ◌<◌, ◌≤◌, ◌+◌, ◌-◌, Bool, true, false, ◌==◌, ◌||◌, if◌then◌else◌, List, [], ◌∷◌, length, get_or, slice_set, drop, map, Option, Some, None, is_some, inl, inr, refl, sym, subst, ap, ap₂, ◌∙◌, arith, eq-eqb}
+use Rattle.std.proofs.Common.{◌≡◌, ◌≢◌, ℕ, zero, suc, ℤ, ◌<◌, ◌≤◌, ◌+◌, ◌-◌, Bool, true, false, ◌==◌, ◌||◌, if◌then◌else◌, List, [], ◌∷◌, length, get_or, slice_set, drop, map, filter, filter_map, Option, Some, None, is_some, inl, inr, refl, sym, subst, ap, ap₂, ◌∙◌, arith, eq-eqb}
 use Rattle.std.specs.FinMap.{get}
 use Rattle.std.specs.Option.{option_map, option_and_then, option_map_or, option_eq}
 use Rattle.std.specs.Prelude.{nat_eq}
@@ -14,7 +14,7 @@ use Rattle.ev_model.specs.Up.{is_smart, is_clipped_by}
 use Rattle.ev_model.specs.declared.object.Object.{Object}
 use Rattle.ev_stack.specs.Order as stack
 use Rattle.ev_stack.specs.Order.{layer_in, without}
-use Rattle.ev_groups.specs.Groups.{place, group, with_group}
+use Rattle.ev_groups.specs.Groups.{place, group, siblings, with_group}
 use Rattle.ev_links.specs.Ties.{Ties, Tie, parent_at, clipper_at, has, released, IsSound}
 use Rattle.ev_links.specs.Calls.{Drops}
 use Rattle.ev_scene.specs.Slots.{of_id, put, spread, value_of}
@@ -416,13 +416,14 @@ module _ {w h : ℕ} (states : List (Option (Held Object))) {groups : List (List
       pub one_memberless : (q : ℕ) → parent_at (get ties) q ≢ Some id
       one_memberless q e = memberless whole sound o at plain q (e ∙ ap Some (sym own))
 
-      module _ (items : List (Held Object)) (made : (p : Object) → of_id (values_of states) id ≡ Some p → map value_of items ≡ map (apply (change.Clip None)) (clipped_by before p))
+      module _ (items : List (Held Object)) (made : map value_of items ≡ map (apply (change.Clip None)) (filter (is_clipped_by id) (filter_map (of_id (values_of states)) (siblings groups parent))))
           (now : List (Option (Held Object))) (still : now ≡ states) where
         module _ (mid groups' : List (List (ℕ × ℤ))) (out : mid ≡ with_group groups parent (without (group groups parent) id)) (cleared : groups' ≡ with_group mid (Some id) [])
             (spread_in states' : List (Option (Held Object))) (put_in : values_of spread_in ≡ spread (map value_of items) (values_of now)) (taken : states' ≡ (if is_some (of_id spread_in id) then put spread_in id None else spread_in)) where
           one_objects_gone : values_of states' ≡ map (λ slot. option_and_then (left (inside before o)) slot) (values_of states)
           one_objects_gone =
-              one_objects whole sound o at plain states states' spread_in items refl (made o there) (put_in ∙ ap (λ states. spread (map value_of items) (values_of states)) still)
+              one_objects whole sound o at plain states states' spread_in items refl
+              (made ∙ ap₂ (λ id parent. map (apply (change.Clip None)) (filter (is_clipped_by id) (filter_map (of_id (values_of states)) (siblings groups parent)))) (sym own) (sym parent_is)) (put_in ∙ ap (λ states. spread (map value_of items) (values_of states)) still)
               (subst (λ id. states' ≡ (if is_some (of_id spread_in id) then put spread_in id None else spread_in)) (sym own) taken)
 
           one_groups_gone : groups' ≡ emptied (inside before o) (gone_from o.parent o groups)

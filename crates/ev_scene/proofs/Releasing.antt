@@ -22,6 +22,7 @@ use Rattle.ev_scene.specs.Board.{Board, MakesAtMost, values_of}
 use Rattle.ev_scene.specs.Change.{apply}
 use Rattle.ev_scene.specs.Edits.{clipped_by}
 use Rattle.ev_scene.specs.Roll.{name_at, IsStateOf}
+use Rattle.ev_scene.specs.Ties.{tie_of}
 use Rattle.ev_scene.specs.Whole.{IsWhole}
 use Rattle.ev_scene.specs.declared.change.Change.TheVariants as change
 use Rattle.ev_scene.proofs.Making.{makes_both}
@@ -126,23 +127,20 @@ has_chosen slots test q p there (u ∷ objects) stand = go (test u) refl (has_ch
 abbrev pub unclipped : ℕ → Object → Object
 unclipped id p = if is_clipped_by id p then apply (change.Clip None) p else p
 
+-- what counts none clips nobody
+pub none_clipped : (objects : List (Option Object)) (ties : Ties) → ((q : ℕ) → get ties q ≡ option_map tie_of (of_id objects q)) → (id n : ℕ) → Counts (clipper_at (get ties)) id n → n ≡ 0 → (ids : List ℕ) → filter (is_clipped_by id) (filter_map (of_id objects) ids) ≡ []
+none_clipped objects ties tied id n counts none [] = refl
+none_clipped objects ties tied id n counts none (x ∷ ids) = go (of_id objects x) refl (none_clipped objects ties tied id n counts none ids)
+  where
+    go : (f : Option Object) → of_id objects x ≡ f → filter (is_clipped_by id) (filter_map (of_id objects) ids) ≡ [] → filter (is_clipped_by id) (cons_option f (filter_map (of_id objects) ids)) ≡ []
+    go None e later = later
+    go (Some p) e later = pick (is_clipped_by id p) refl
+      where
+        pick : (b : Bool) → is_clipped_by id p ≡ b → (if b then p ∷ filter (is_clipped_by id) (filter_map (of_id objects) ids) else filter (is_clipped_by id) (filter_map (of_id objects) ids)) ≡ []
+        pick true f = absurd (Counts-none (clipper_at (get ties)) id (subst (Counts (clipper_at (get ties)) id) none counts) x (ap (option_and_then (λ tie. tie.clipper)) (tied x ∙ ap (option_map tie_of) e) ∙ clipper_of id p f))
+        pick false f = later
+
 module _ {w h : ℕ} {objects : List (Option Object)} {groups : List (List (ℕ × ℤ))} {ties : Ties} (whole : IsWhole (record { w = w; h = h; objects = objects; groups = groups }) ties) where
-  -- what counts none clips nobody
-  none_clipped : (id n : ℕ) → Counts (clipper_at (get ties)) id n → n ≡ 0 → (ids : List ℕ) → filter (is_clipped_by id) (filter_map (of_id objects) ids) ≡ []
-  none_clipped id n counts none [] = refl
-  none_clipped id n counts none (x ∷ ids) = go (of_id objects x) refl (none_clipped id n counts none ids)
-    where
-      go : (f : Option Object) → of_id objects x ≡ f → filter (is_clipped_by id) (filter_map (of_id objects) ids) ≡ [] → filter (is_clipped_by id) (cons_option f (filter_map (of_id objects) ids)) ≡ []
-      go None e later = later
-      go (Some p) e later = pick (is_clipped_by id p) refl
-        where
-          pick : (b : Bool) → is_clipped_by id p ≡ b → (if b then p ∷ filter (is_clipped_by id) (filter_map (of_id objects) ids) else filter (is_clipped_by id) (filter_map (of_id objects) ids)) ≡ []
-          pick true f = absurd (Counts-none (clipper_at (get ties)) id (subst (Counts (clipper_at (get ties)) id) none counts) x (clipper_is whole x p e ∙ clipper_of id p f))
-          pick false f = later
-
-  pub none_clipped_by : (id n : ℕ) → Counts (clipper_at (get ties)) id n → n ≡ 0 → (o : Object) → of_id objects id ≡ Some o → clipped_by (record { w = w; h = h; objects = objects; groups = groups }) o ≡ []
-  none_clipped_by id n counts none o there = none_clipped o.id n (subst (λ id. Counts (clipper_at (get ties)) id n) (sym (whole.own id o there)) counts) none (siblings groups o.parent)
-
   module _ (sound : IsSound (get ties)) (o : Object) (there : of_id objects o.id ≡ Some o) where
     abbrev board : Board
     board = record { w = w; h = h; objects = objects; groups = groups }
@@ -170,10 +168,8 @@ module _ {w h : ℕ} {objects : List (Option Object)} {groups : List (List (ℕ 
             ∙ ap (λ b. b && is_clipped_by o.id p) (has_listed objects whole.own (siblings groups o.parent) q p e) ∙ among q p e (is_clipped_by o.id p) refl)
 
 -- each of the new states is of an object that is there
-module _ {w h : ℕ} (states : List (Option (Held Object))) {groups : List (List (ℕ × ℤ))} {ties : Ties} (whole : IsWhole (record { w = w; h = h; objects = values_of states; groups = groups }) ties) (o : Object) where
-  pub released_states : (items : List (Held Object)) → map value_of items ≡ map (apply (change.Clip None)) (clipped_by (record { w = w; h = h; objects = values_of states; groups = groups }) o)
-      → (now : List (Option (Held Object))) → now ≡ states → All (IsStateOf now) items
-  released_states items made now still =
-      subst (λ now. All (IsStateOf now) items) (sym still) (shift.all_states states (apply (change.Clip None)) (λ o. refl) (λ o. refl) items _ made
-      (All-filter (is_clipped_by o.id) (λ p. of_id (values_of states) p.id ≡ Some p) (filter_map (of_id (values_of states)) (siblings groups o.parent))
-      (listed_stand (values_of states) whole.own (siblings groups o.parent))))
+pub released_states : {w h : ℕ} (states : List (Option (Held Object))) {groups : List (List (ℕ × ℤ))} {ties : Ties} → IsWhole (record { w = w; h = h; objects = values_of states; groups = groups }) ties → (id : ℕ) (ids : List ℕ) (items : List (Held Object))
+    → map value_of items ≡ map (apply (change.Clip None)) (filter (is_clipped_by id) (filter_map (of_id (values_of states)) ids)) → (now : List (Option (Held Object))) → now ≡ states → All (IsStateOf now) items
+released_states states whole id ids items made now still =
+    subst (λ now. All (IsStateOf now) items) (sym still) (shift.all_states states (apply (change.Clip None)) (λ o. refl) (λ o. refl) items _ made
+    (All-filter (is_clipped_by id) (λ p. of_id (values_of states) p.id ≡ Some p) (filter_map (of_id (values_of states)) ids) (listed_stand (values_of states) whole.own ids)))

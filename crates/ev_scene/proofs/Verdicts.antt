@@ -54,10 +54,11 @@ known_at b name o test e = ap (λ found. option_map_or test found (Some refusal.
 with_at : (b : Board) (name : List ℕ) (o : Object) (make : Object → Board) → Some o ≡ named b.objects name → with_named b name make ≡ make o
 with_at b name o make e = ap (λ found. option_map_or make found b) (sym e)
 
-refuses : (verdict : Option Refusal) (first : Option LinkErr) (fault : LinkErr) (cause : Refusal) → verdict ≡ option_map refusal_of first → Some fault ≡ first → cause ≡ refusal_of fault → Refuses verdict cause
+-- what ties refuse is refused, and what they allow is allowed
+pub refuses : (verdict : Option Refusal) (first : Option LinkErr) (fault : LinkErr) (cause : Refusal) → verdict ≡ option_map refusal_of first → Some fault ≡ first → cause ≡ refusal_of fault → Refuses verdict cause
 refuses verdict first fault cause e f g = subst (λ verdict. Refuses verdict cause) (sym (e ∙ ap (option_map refusal_of) (sym f))) g
 
-allows : (verdict : Option Refusal) (first : Option LinkErr) → verdict ≡ option_map refusal_of first → None ≡ first → verdict ≡ None
+pub allows : (verdict : Option Refusal) (first : Option LinkErr) → verdict ≡ option_map refusal_of first → None ≡ first → verdict ≡ None
 allows verdict first e f = e ∙ ap (option_map refusal_of) (sym f)
 
 -- where nothing refuses, memory may be wanting
@@ -81,16 +82,10 @@ pub changed_is : (b : Board) (o : Object) (c : Change) (objects' : List (Option 
 changed_is b o c objects' there e = ap (λ objects. record { w = b.w; h = b.h; objects = objects; groups = b.groups }) (e ∙ ap (λ slot. put b.objects o.id (option_map (apply c) slot)) there)
 
 module _ {scene : Board} {ties : Ties} (whole : IsWhole scene ties) (name other : List ℕ) (o c : Object) (found : Some o ≡ named scene.objects name) (near : Some c ≡ named scene.objects other) where
-  clip_known : known scene name (λ o. known scene other (clip_verdict scene o)) ≡ option_map refusal_of (clip_fault ties o.id c.id)
+  pub clip_known : known scene name (λ o. known scene other (clip_verdict scene o)) ≡ option_map refusal_of (clip_fault ties o.id c.id)
   clip_known =
       known_at scene name o (λ o. known scene other (clip_verdict scene o)) found ∙ known_at scene other c (clip_verdict scene o) near
       ∙ ap (λ ties. option_map refusal_of (clip_fault ties o.id c.id)) (ties_are whole)
-
-  pub clip_refuses : (fault : LinkErr) (cause : Refusal) → Some fault ≡ clip_fault ties o.id c.id → cause ≡ refusal_of fault → Refuses (known scene name (λ o. known scene other (clip_verdict scene o))) cause
-  clip_refuses fault cause = refuses _ _ fault cause clip_known
-
-  pub clip_allows : None ≡ clip_fault ties o.id c.id → known scene name (λ o. known scene other (clip_verdict scene o)) ≡ None
-  clip_allows = allows _ _ clip_known
 
   pub clip_made : of_id scene.objects o.id ≡ Some o → (objects' : List (Option Object)) → objects' ≡ put scene.objects o.id (option_map (apply (change.Clip (Some c.id))) (of_id scene.objects o.id))
       → record scene { objects = objects' } ≡ with_named scene name (λ o. with_named scene other (λ c. changed (change.Clip (Some c.id)) scene o))
@@ -98,44 +93,20 @@ module _ {scene : Board} {ties : Ties} (whole : IsWhole scene ties) (name other 
       changed_is scene o (change.Clip (Some c.id)) objects' there e
       ∙ sym (with_at scene name o (λ o. with_named scene other (λ c. changed (change.Clip (Some c.id)) scene o)) found ∙ with_at scene other c (λ c. changed (change.Clip (Some c.id)) scene o) near)
 
-  join_known : known scene name (λ o. known scene other (join_verdict scene o)) ≡ option_map refusal_of (join_fault ties o.id c.id)
+  pub join_known : known scene name (λ o. known scene other (join_verdict scene o)) ≡ option_map refusal_of (join_fault ties o.id c.id)
   join_known =
       known_at scene name o (λ o. known scene other (join_verdict scene o)) found ∙ known_at scene other c (join_verdict scene o) near
       ∙ ap (λ ties. option_map refusal_of (join_fault ties o.id c.id)) (ties_are whole)
 
-  pub join_refuses : (fault : LinkErr) (cause : Refusal) → Some fault ≡ join_fault ties o.id c.id → cause ≡ refusal_of fault → Refuses (known scene name (λ o. known scene other (join_verdict scene o))) cause
-  join_refuses fault cause = refuses _ _ fault cause join_known
-
-  pub join_allows : None ≡ join_fault ties o.id c.id → known scene name (λ o. known scene other (join_verdict scene o)) ≡ None
-  join_allows = allows _ _ join_known
-
-  join_made : (same : Bool) → same ≡ option_eq nat_eq o.parent (Some c.id) → with_named scene name (λ o. with_named scene other (λ s. homed (Some s.id) scene o)) ≡ (if same then scene else rehomed (Some c.id) scene o)
+  -- a member stays where it is
+  pub join_made : (same : Bool) → same ≡ option_eq nat_eq o.parent (Some c.id) → with_named scene name (λ o. with_named scene other (λ s. homed (Some s.id) scene o)) ≡ (if same then scene else rehomed (Some c.id) scene o)
   join_made same e =
       with_at scene name o (λ o. with_named scene other (λ s. homed (Some s.id) scene o)) found ∙ with_at scene other c (λ s. homed (Some s.id) scene o) near
       ∙ ap (λ same. if same then scene else rehomed (Some c.id) scene o) (sym e)
 
-  -- a member stays where it is
-  pub join_kept : true ≡ option_eq nat_eq o.parent (Some c.id) → scene ≡ with_named scene name (λ o. with_named scene other (λ s. homed (Some s.id) scene o))
-  join_kept e = sym (join_made true e)
-
-  pub join_moved : (b : Board) → false ≡ option_eq nat_eq o.parent (Some c.id) → b ≡ rehomed (Some c.id) scene o → b ≡ with_named scene name (λ o. with_named scene other (λ s. homed (Some s.id) scene o))
-  join_moved b e f = f ∙ sym (join_made false e)
-
 module _ {scene : Board} {ties : Ties} (whole : IsWhole scene ties) (name : List ℕ) (o : Object) (found : Some o ≡ named scene.objects name) where
-  leave_known : known scene name (leave_verdict scene) ≡ option_map refusal_of (leave_fault ties o.id)
+  pub leave_known : known scene name (leave_verdict scene) ≡ option_map refusal_of (leave_fault ties o.id)
   leave_known = known_at scene name o (leave_verdict scene) found ∙ ap (λ ties. option_map refusal_of (leave_fault ties o.id)) (ties_are whole)
 
-  pub leave_refuses : (fault : LinkErr) (cause : Refusal) → Some fault ≡ leave_fault ties o.id → cause ≡ refusal_of fault → Refuses (known scene name (leave_verdict scene)) cause
-  leave_refuses fault cause = refuses _ _ fault cause leave_known
-
-  pub leave_allows : None ≡ leave_fault ties o.id → known scene name (leave_verdict scene) ≡ None
-  leave_allows = allows _ _ leave_known
-
-  leave_made : (stands_in : Bool) → is_some o.parent ≡ stands_in → with_named scene name (homed None scene) ≡ (if stands_in then rehomed None scene o else scene)
+  pub leave_made : (stands_in : Bool) → is_some o.parent ≡ stands_in → with_named scene name (homed None scene) ≡ (if stands_in then rehomed None scene o else scene)
   leave_made stands_in e = with_at scene name o (homed None scene) found ∙ homed_nowhere scene o ∙ ap (λ stands_in. if stands_in then rehomed None scene o else scene) e
-
-  pub leave_kept : is_some o.parent ≡ false → scene ≡ with_named scene name (homed None scene)
-  leave_kept e = sym (leave_made false e)
-
-  pub leave_moved : (b : Board) → is_some o.parent ≡ true → b ≡ rehomed None scene o → b ≡ with_named scene name (homed None scene)
-  leave_moved b e f = f ∙ sym (leave_made true e)

@@ -1,5 +1,4 @@
 -- What is kept of a scene, and how it stands for a board.
-use Rattle.std.specs.Prelude.{◌≡◌}
 use Rattle.ev_scene.specs.declared.cast.Cast.{Cast}
 use Rattle.ev_scene.specs.Board.{Kept, Board, board}
 use Rattle.ev_scene.specs.Whole.{IsWhole}
@@ -13,10 +12,3 @@ board_of cast = board (kept_of cast)
 -- what holds of a scene holds of it
 abbrev pub IsCast : Cast → Type 0
 IsCast cast = IsWhole (board_of cast) cast.links
-
--- all but the objects stays
-pub record IsSameButRoll (old new : Cast) : Type 0 where
-  pub w : new.w ≡ old.w
-  pub h : new.h ≡ old.h
-  pub groups : new.groups ≡ old.groups
-  pub links : new.links ≡ old.links

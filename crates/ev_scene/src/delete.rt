@@ -1,5 +1,5 @@
 // Deletes.
-ghost use Rattle.std.specs.Prelude.{◌≡◌, ℕ, ◌+◌, List, ◌++◌, length, map, filter, filter_map, option_to_list, None, OnOk, OnErr, IfErr, IfOk, Option, Some, true, false, if◌then◌else◌};
+ghost use Rattle.std.specs.Prelude.{◌≡◌, ℕ, ◌+◌, List, ◌++◌, length, map, filter, filter_map, option_to_list, option_map, None, OnOk, OnErr, IfErr, IfOk, Option, Some, true, false, if◌then◌else◌};
 ghost use Rattle.std.specs.FinMap.{get};
 ghost use Rattle.ev_model.specs.Up.{is_smart, is_clipped_by};
 ghost use Rattle.ev_model.specs.declared.object.Object.{Object};
@@ -8,9 +8,10 @@ ghost use Rattle.ev_links.specs.Ties.{parent_at, has};
 ghost use Rattle.ev_groups.specs.Groups.{siblings};
 ghost use Rattle.ev_scene.specs.Slots.{of_id, value_of};
 ghost use Rattle.ev_scene.specs.Board.{values_of, inside, MakesAtMost};
-ghost use Rattle.ev_scene.specs.Cast.{IsCast, IsSameButRoll, kept_of, board_of};
+ghost use Rattle.ev_scene.specs.Cast.{IsCast, kept_of, board_of};
 ghost use Rattle.ev_scene.specs.Change.{apply};
-ghost use Rattle.ev_scene.specs.Edits.{Edits, IsLeft, deleted, emptied, clipped_by, writes};
+ghost use Rattle.ev_scene.specs.Ties.{tie_of};
+ghost use Rattle.ev_scene.specs.Edits.{Edits, IsLeft, deleted, emptied, writes};
 ghost use Rattle.ev_scene.specs.declared.change.Change.TheVariants as change;
 
 use crate::NoMemory;
@@ -18,6 +19,7 @@ use crate::cast::Cast;
 use crate::roll::Roll;
 use crate::stacking::remove_from;
 use ev_groups::Groups;
+use ev_links::Links;
 use ev_model::{Name, Object, Refusal};
 use ev_state::{Copied, Shared};
 
@@ -67,10 +69,10 @@ impl Cast {
         ensures whole { IsCast self.new }
         ensures ok { OnOk result ((o : Object) → of_id (values_of self.old.roll.states) id ≡ Some o → board_of self.new ≡ deleted (board_of self.old) o) }
         ensures err { OnErr result (kept_of self.new ≡ record (kept_of self.old) { made = self.new.roll.made }) }
-        ensures made { (o : Object) → of_id (values_of self.old.roll.states) id ≡ Some o
-            → MakesAtMost (length (clipped_by (board_of self.old) o)) self.old.roll.made self.new.roll.made }
+        ensures made { MakesAtMost (length (filter (is_clipped_by id) (filter_map (of_id (values_of self.old.roll.states))
+            (siblings self.old.groups parent)))) self.old.roll.made self.new.roll.made }
     {
-        let released = self.released(id, parent)?;
+        let released = released(&mut self.roll, &self.groups, &self.links, id, parent)?;
         self.tell_ties();
         let Ok(()) = self.links.drop_id(id) else {
             unreachable!()
@@ -80,23 +82,6 @@ impl Cast {
         self.roll.replace_all(released);
         self.roll.take(id);
         Ok(())
-    }
-
-    // New states without a clipper for all that an object clips, which stands beside it.
-    fn released(&mut self, id: u64, parent: Option<u64>) -> Result<Vec<Shared<Object>>, NoMemory>
-        requires whole { IsCast self.old }
-        requires object { (o : Object) × (of_id (values_of self.old.roll.states) id ≡ Some o) × (o.parent ≡ parent) }
-        ensures states { IfOk result (λ states. (o : Object) → of_id (values_of self.old.roll.states) id ≡ Some o
-            → map value_of states.items ≡ map (apply (change.Clip None)) (clipped_by (board_of self.old) o)) }
-        ensures same { self.new.roll.states ≡ self.old.roll.states }
-        ensures rest { IsSameButRoll self.old self.new }
-        ensures made { (o : Object) → of_id (values_of self.old.roll.states) id ≡ Some o
-            → MakesAtMost (length (clipped_by (board_of self.old) o)) self.old.roll.made self.new.roll.made }
-    {
-        if self.links.below_of(id) == 0 {
-            return Ok(Vec::new(self.roll.alloc()));
-        }
-        released_beside(&mut self.roll, &self.groups, id, parent)
     }
 
     // The ids of a smart object and of all that stands inside it.
@@ -132,6 +117,27 @@ fn take_all(roll: &mut Roll, ids: &[u64])
 }
 
 // New states without a clipper for all siblings in a parent that an object clips.
+fn released(
+    roll: &mut Roll,
+    groups: &Groups,
+    links: &Links,
+    id: u64,
+    parent: Option<u64>,
+) -> Result<Vec<Shared<Object>>, NoMemory>
+    requires tied { (q : ℕ) → get links.now q ≡ option_map tie_of (of_id (values_of roll.old.states) q) }
+    ensures states { IfOk result (λ states. map value_of states.items
+        ≡ map (apply (change.Clip None)) (filter (is_clipped_by id) (filter_map (of_id (values_of roll.old.states)) (siblings groups.now parent)))) }
+    ensures same { roll.new.states ≡ roll.old.states }
+    ensures made { MakesAtMost (length (filter (is_clipped_by id) (filter_map (of_id (values_of roll.old.states))
+        (siblings groups.now parent)))) roll.old.made roll.new.made }
+{
+    if links.below_of(id) == 0 {
+        return Ok(Vec::new(roll.alloc()));
+    }
+    released_beside(roll, groups, id, parent)
+}
+
+// The same, found by going through all siblings.
 fn released_beside(
     roll: &mut Roll,
     groups: &Groups,
@@ -141,7 +147,8 @@ fn released_beside(
     ensures states { IfOk result (λ states. map value_of states.items
         ≡ map (apply (change.Clip None)) (filter (is_clipped_by id) (filter_map (of_id (values_of roll.old.states)) (siblings groups.now parent)))) }
     ensures same { roll.new.states ≡ roll.old.states }
-    ensures made { MakesAtMost (length (filter (is_clipped_by id) (filter_map (of_id (values_of roll.old.states)) (siblings groups.now parent)))) roll.old.made roll.new.made }
+    ensures made { MakesAtMost (length (filter (is_clipped_by id) (filter_map (of_id (values_of roll.old.states))
+        (siblings groups.now parent)))) roll.old.made roll.new.made }
 {
     let mut states = Vec::new(roll.alloc());
     let siblings = groups.group(parent);
