@@ -1,5 +1,6 @@
 -- Records are as a redraw asks.
 use Rattle.std.proofs.Common.{◌≡◌, pos, ◌<ℤ◌, Bool, true, false, ◌&&◌, not, int_lt, if◌then◌else◌, List, [], ◌∷◌, All, map, filter_map, Some, None, refl, sym, ap, ap₂, subst, arith}
+use Rattle.std.proofs.lemmas.Bool.{and_parts}
 use Rattle.std.proofs.lemmas.Int.{ints, clamps}
 use Rattle.std.proofs.lemmas.List.Elements.{All-from_recursion, recursion_from_All}
 use Rattle.std.specs.List.{fold, cons_option, AllByRecursion}
@@ -13,23 +14,15 @@ use Rattle.ev_model.specs.Up.{cut, clip, clips, colour, over_it, is_shown, is_sm
 use Rattle.ev_model.specs.declared.object.Object.{Object}
 use Rattle.ev_model.specs.declared.scene.Record.{Record}
 
-left_of : (a b : Bool) → (a && b) ≡ true → a ≡ true
-left_of true b e = refl
-left_of false b e = cc
-
-right_of : (a b : Bool) → (a && b) ≡ true → b ≡ true
-right_of true b e = e
-right_of false b e = cc
-
 not_true : (b : Bool) → not b ≡ true → b ≡ false
 not_true true e = cc
 not_true false e = refl
 
 wide : (a : Area) → has_pixels a ≡ true → pos 0 <ℤ a.w
-wide a some = let e = left_of (int_lt (pos 0) a.w) (int_lt (pos 0) a.h) some in omega (arith, ints, e)
+wide a some = let e = (and_parts (int_lt (pos 0) a.w) (int_lt (pos 0) a.h) some).0 in omega (arith, ints, e)
 
 high : (a : Area) → has_pixels a ≡ true → pos 0 <ℤ a.h
-high a some = let e = right_of (int_lt (pos 0) a.w) (int_lt (pos 0) a.h) some in omega (arith, ints, e)
+high a some = let e = (and_parts (int_lt (pos 0) a.w) (int_lt (pos 0) a.h) some).1 in omega (arith, ints, e)
 
 has_both : (a : Area) → pos 0 <ℤ a.w → pos 0 <ℤ a.h → has_pixels a ≡ true
 has_both a w_some h_some =
@@ -93,9 +86,9 @@ all_inside (u ∷ us) area some =
 -- what is seen of an object
 look_on : (s : Stage) (o : Object) → IsObject o → (is_drawn s o && has_pixels (clip s o)) ≡ true → IsLookOn s.w s.h (record { id = o.id; area = clip s o; color = colour s o; object = o })
 look_on s o limits seen =
-    let drawn = left_of (is_drawn s o) (has_pixels (clip s o)) seen in
-    let some = right_of (is_drawn s o) (has_pixels (clip s o)) seen in
-    let plain : is_smart o ≡ false = not_true (is_smart o) (left_of (not (is_smart o)) (not (clips s o)) (left_of (not (is_smart o) && not (clips s o)) (is_shown s o) drawn)) in
+    let parts = and_parts (is_drawn s o) (has_pixels (clip s o)) seen in
+    let some = parts.1 in
+    let plain : is_smart o ≡ false = not_true (is_smart o) (and_parts (not (is_smart o)) (not (clips s o)) (and_parts (not (is_smart o) && not (clips s o)) (is_shown s o) parts.0).0).0 in
     let first : cut (canvas s) o ≡ meet (canvas s) o.rect = rw plain refl in
     let rest : Holds (meet (canvas s) o.rect) (clip s o) = subst (λ area. Holds area (clip s o)) first (all_inside (over_it s.objects o) (cut (canvas s) o) some) in
     let both = meet_inside (canvas s) o.rect rest.some in

@@ -2,7 +2,7 @@
 use Rattle.std.proofs.Common.{◌≡◌, ℕ, zero, suc, ◌+◌, ◌<◌, ◌≤◌, List, [], ◌∷◌, ◌++◌, All, length, filter_map, get_or, drop, Option, Some, None, refl, sym, ap, ◌∙◌, append_assoc, arith}
 use Rattle.std.specs.List.{cons_option}
 use Rattle.std.specs.Option.{option_map, option_to_list}
-use Rattle.std.proofs.lemmas.List.{map-append, drop_all}
+use Rattle.std.proofs.lemmas.List.{map-append, drop_all, append-nil}
 use Rattle.std.proofs.Math.Seq.{drop-cons}
 use Rattle.ev_state.specs.Held.{Held}
 use Rattle.ev_model.specs.Limits.{IsObject, AreObjects}
@@ -17,12 +17,8 @@ pub one_more : {A : Type 0} (so_far now rest all : List A) (x : Option A) → no
 one_more so_far now rest all None e f = ap (λ xs. xs ++ rest) e ∙ append_assoc so_far [] rest ∙ f
 one_more so_far now rest all (Some x) e f = ap (λ xs. xs ++ rest) e ∙ append_assoc so_far (x ∷ []) rest ∙ f
 
-pub nothing_more : {A : Type 0} (xs : List A) → xs ++ [] ≡ xs
-nothing_more [] = refl
-nothing_more (x ∷ xs) = ap (λ rest. x ∷ rest) (nothing_more xs)
-
 pub all_done : {A : Type 0} (xs all : List A) → xs ++ [] ≡ all → xs ≡ all
-all_done xs all e = sym (nothing_more xs) ∙ e
+all_done xs all e = sym (append-nil xs) ∙ e
 
 -- what the next of a list gives
 pub pick_next : {A B : Type 0} (find : A → Option B) (xs : List A) (i : ℕ) (d : A) → i < length xs → filter_map find (drop i xs) ≡ cons_option (find (get_or xs i d)) (filter_map find (drop (i + 1) xs))
@@ -46,7 +42,7 @@ pushed states objects objects' id s s' e f there =
 
 pub not_pushed : (states : List (Option (Held Object))) (objects : List (Held Object)) (id : ℕ) → None ≡ of_id states id → values objects ≡ values objects ++ option_to_list (of_id (values_of states) id)
 not_pushed states objects id none =
-    sym (nothing_more (values objects)) ∙ ap (λ x. values objects ++ option_to_list x) (sym (of_id_map value_of states id ∙ ap (option_map value_of) (sym none)))
+    sym (append-nil (values objects)) ∙ ap (λ x. values objects ++ option_to_list x) (sym (of_id_map value_of states id ∙ ap (option_map value_of) (sym none)))
 
 -- what holds of each object that is there holds of those of some ids
 pub holds_in_order : (H : Object → Type 0) (objects : List (Option Object)) (ids : List ℕ) → ((id : ℕ) (o : Object) → of_id objects id ≡ Some o → H o) → All H (filter_map (of_id objects) ids)

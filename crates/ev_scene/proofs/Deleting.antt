@@ -4,7 +4,6 @@ use Rattle.std.specs.FinMap.{get}
 use Rattle.std.specs.Option.{option_map, option_and_then, option_map_or, option_eq}
 use Rattle.std.specs.Prelude.{nat_eq}
 use Rattle.std.proofs.Math.Bool.{true≢false}
-use Rattle.std.proofs.lemmas.Bool.{or_right}
 use Rattle.std.proofs.lemmas.Bool.Decides.{nat_tests, eqb_tells}
 use Rattle.std.proofs.lemmas.Option.{none-some, same_Some}
 use Rattle.std.proofs.lemmas.List.{drop_more, drop_all, length-set, length-map}
@@ -17,6 +16,7 @@ use Rattle.ev_stack.specs.Order.{layer_in, without}
 use Rattle.ev_groups.specs.Groups.{place, group, siblings, with_group}
 use Rattle.ev_links.specs.Ties.{Ties, Tie, parent_at, clipper_at, has, released, IsSound}
 use Rattle.ev_links.specs.Calls.{Drops}
+use Rattle.ev_links.proofs.Ways.{has-Has}
 use Rattle.ev_scene.specs.Slots.{of_id, put, spread, value_of}
 use Rattle.ev_scene.specs.Board.{Board, values_of, inside, ids_in}
 use Rattle.ev_scene.specs.Change.{apply}
@@ -32,14 +32,8 @@ use Rattle.ev_scene.proofs.Trees.{inside_closed, inside_clipped, inside_above, i
 use Rattle.ev_scene.proofs.Nesting as nest
 use Rattle.ev_scene.proofs.Releasing.{unclipped, spread_released}
 
--- what stands in a list is one of it
-has_at : (ids : List ℕ) (i : ℕ) → i < length ids → has ids (get_or ids i 0) ≡ true
-has_at [] i low = absurd (omega (arith, low))
-has_at (x ∷ ids) zero low = ap (λ b. b || has ids x) (eq-eqb x x refl)
-has_at (x ∷ ids) (suc i) low = or_right (x == get_or ids i 0) _ (has_at ids i (omega (arith, low)))
-
 pub no_zero : (ids : List ℕ) (i : ℕ) → i < length ids → has ids 0 ≡ false → get_or ids i 0 ≢ 0
-no_zero ids i low none is = true≢false (sym (has_at ids i low) ∙ ap (has ids) is ∙ none)
+no_zero ids i low none is = true≢false (sym (has-Has ids _ (nest.Has_at ids i 0 low)) ∙ ap (has ids) is ∙ none)
 
 -- one more group is empty, and then all are
 pub emptied_more : (ids : List ℕ) (i : ℕ) → i < length ids → (now new end : List (List (ℕ × ℤ))) → new ≡ with_group now (Some (get_or ids i 0)) [] → emptied (drop i ids) now ≡ end → emptied (drop (i + 1) ids) new ≡ end

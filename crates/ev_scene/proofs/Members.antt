@@ -1,6 +1,7 @@
 -- In the order of painting the members of each object stand in their own order.
 use Rattle.std.proofs.Common.{◌≡◌, ◌≢◌, ℕ, zero, suc, ◌+◌, ◌-◌, ◌<◌, Bool, true, false, ◌==◌, List, [], ◌∷◌, ◌++◌, length, filter, flat_map, Option, Some, None, inl, inr, refl, sym, subst, ap, ap₂, ◌∙◌, arith}
 use Rattle.std.proofs.lemmas.Bool.Decides.{eqb_tells}
+use Rattle.std.proofs.lemmas.List.{append-nil}
 use Rattle.std.proofs.lemmas.List.Elements.{filter-append}
 use Rattle.std.proofs.lemmas.Option.{none-some, same_Some}
 use Rattle.std.proofs.Math.Bool.{true≢false}
@@ -8,7 +9,6 @@ use Rattle.std.specs.Option.{option_eq}
 use Rattle.ev_model.specs.Order.{in_order}
 use Rattle.ev_links.specs.Ties.{Has, IsDistinct, IsWay}
 use Rattle.ev_links.proofs.Ways.{no_return, one_way}
-use Rattle.ev_scene.proofs.Capturing.{nothing_more}
 use Rattle.ev_scene.proofs.Nesting as nest
 
 nothing_in : (xs : List ℕ) → ((x : ℕ) → ¬ Has x xs) → xs ≡ []
@@ -105,7 +105,7 @@ module _ (siblings : Option ℕ → List ℕ) (over : ℕ → Option ℕ) (is_th
         ∙ elim h [
           | inl here ↦
               ap (λ rest. block y ++ rest) (nothing_there ys (λ z h. other z (inr h)) (λ z k. none z (inr k) (λ is. d.0 (subst (λ n. Has n ys) (is ∙ sym here) k))))
-              ∙ nothing_more (block y) ∙ ap block here
+              ∙ append-nil (block y) ∙ ap block here
           | inr later ↦
               ap (λ first. first ++ picked (Some q) (flat_map (after n) ys)) (none y (inl refl) (λ is. d.0 (subst (λ n. Has n ys) (sym is) later)))
               ∙ only_one at ys d.1 later (λ z h. other z (inr h)) (λ z h. none z (inr h))

@@ -1,11 +1,11 @@
 -- Objects by their names.
-use Rattle.std.proofs.Common.{◌≡◌, ◌↔◌, ℕ, zero, suc, ◌+◌, Bool, true, false, cond, ◌==◌, if◌then◌else◌, List, [], ◌∷◌, ◌++◌, length, Option, Some, None, refl, sym, ap, ◌∙◌, arith}
+use Rattle.std.proofs.Common.{◌≡◌, ◌↔◌, ℕ, zero, suc, ◌+◌, Bool, true, false, cond, ◌==◌, if◌then◌else◌, List, [], ◌∷◌, ◌++◌, length, Option, Some, None, refl, sym, ap, ◌∙◌, arith, eq-eqb}
 use Rattle.std.specs.Option.{option_map}
 use Rattle.std.specs.Str.{bytes_eq}
 use Rattle.std.proofs.lemmas.Option.{none-some, same_Some}
 use Rattle.std.proofs.Math.Bool.{true≢false}
 use Rattle.std.specs.Cmp.Lexicographic.{bytes_decides}
-use Rattle.std.proofs.lemmas.Bool.Decides.{nat_tests}
+use Rattle.std.proofs.lemmas.Bool.{eqb-true}
 use Rattle.ev_state.specs.Held.{Held}
 use Rattle.ev_model.specs.declared.object.Object.{Object}
 use Rattle.ev_scene.specs.Slots.{of_id, put, live, value_of}
@@ -108,12 +108,6 @@ removed_leads false true id i gone name A A' P P' b_is is_b c_is is_c a p both l
 removed_leads false false id i gone name A A' P P' b_is is_b c_is is_c a p both led there =
     ((λ h. p ∙ both.0 (sym a ∙ h)), (λ h. a ∙ both.1 (sym p ∙ h)))
 
-eqb_is : (a b : ℕ) → (a == b) ≡ true → a ≡ b
-eqb_is a b h = grind (arith, nat_tests)
-
-is_eqb : (a b : ℕ) → a ≡ b → (a == b) ≡ true
-is_eqb a b h = grind (arith, nat_tests)
-
 pub kept : (states states' : List (Option (Held Object))) (ids ids' : List (Label × ℕ)) → states' ≡ states → ids' ≡ ids → IsRoll states ids → IsRoll states' ids'
 kept states states' ids ids' e f roll = rw (e, f) roll
 
@@ -122,9 +116,9 @@ pub added : (states : List (Option (Held Object))) (ids ids' : List (Label × �
     → IsRoll (states ++ Some s ∷ []) ids'
 added states ids ids' s roll next free leads more = record {
   own = λ i t there. some_choice (i == length states + 1) (Some s) (of_id states i) t _ (sym (of_id_end states i (Some s)) ∙ there)
-      (λ e f. sym (ap (λ t. t.value.id) (same_Some _ _ f)) ∙ next ∙ sym (eqb_is i (length states + 1) e)) (λ e f. roll.own i t f);
+      (λ e f. sym (ap (λ t. t.value.id) (same_Some _ _ f)) ∙ next ∙ sym (eqb-true i (length states + 1) e)) (λ e f. roll.own i t f);
   leads = λ name i. added_leads (bytes_eq s.value.name name) (i == length states + 1) (length states + 1) i s.value.name name (id_in ids name) (id_in ids' name) (name_at states i) (name_at (states ++ Some s ∷ []) i)
-      (bytes_decides s.value.name name).0 (bytes_decides s.value.name name).1 (eqb_is i (length states + 1)) (is_eqb i (length states + 1))
+      (bytes_decides s.value.name name).0 (bytes_decides s.value.name name).1 (eqb-true i (length states + 1)) (eq-eqb i (length states + 1))
       (leads name ∙ ap (λ id. cond (bytes_eq s.value.name name) (Some id) (id_in ids name)) next)
       (ap (option_map (λ s. s.value.name)) (of_id_end states i (Some s)) ∙ map_choice (λ s. s.value.name) (i == length states + 1) (Some s) (of_id states i))
       (roll.leads name i)
@@ -142,7 +136,7 @@ removed states ids ids' name id roll leads others fewer = go (named_by states id
     own = λ i t h. some_choice (i == id) None (of_id states i) t _ (sym (of_id_put states id i by.state None by.there) ∙ h)
         (λ e f. absurd (none-some t f)) (λ e f. roll.own i t f);
     leads = λ other i. removed_leads (bytes_eq name other) (i == id) id i name other (id_in ids other) (id_in ids' other) (name_at states i) (name_at (put states id None) i)
-        (bytes_decides name other).0 (bytes_decides name other).1 (eqb_is i id) (is_eqb i id)
+        (bytes_decides name other).0 (bytes_decides name other).1 (eqb-true i id) (eq-eqb i id)
         (others other)
         (ap (option_map (λ s. s.value.name)) (of_id_put states id i by.state None by.there) ∙ map_choice (λ s. s.value.name) (i == id) None (of_id states i))
         (roll.leads other i)
@@ -155,12 +149,12 @@ pub changed : (states : List (Option (Held Object))) (ids : List (Label × ℕ))
     → IsRoll (put states id (Some s')) ids
 changed states ids id s s' roll there same_id same_name = record {
   own = λ i t h. some_choice (i == id) (Some s') (of_id states i) t _ (sym (of_id_put states id i s (Some s') there) ∙ h)
-      (λ e f. sym (ap (λ t. t.value.id) (same_Some _ _ f)) ∙ same_id ∙ roll.own id s there ∙ sym (eqb_is i id e)) (λ e f. roll.own i t f);
+      (λ e f. sym (ap (λ t. t.value.id) (same_Some _ _ f)) ∙ same_id ∙ roll.own id s there ∙ sym (eqb-true i id e)) (λ e f. roll.own i t f);
   leads = λ name i. let e = names_stay i in ((λ h. e ∙ (roll.leads name i).0 h), (λ h. (roll.leads name i).1 (sym e ∙ h)));
   size = roll.size ∙ sym (live_put states id s s' there);
 } where
   names_stay : (i : ℕ) → name_at (put states id (Some s')) i ≡ name_at states i
   names_stay i = ap (option_map (λ s. s.value.name)) (of_id_put states id i s (Some s') there) ∙ go (i == id) refl where
     go : (b : Bool) → (i == id) ≡ b → option_map (λ s. s.value.name) (if b then Some s' else of_id states i) ≡ name_at states i
-    go true e = ap Some same_name ∙ sym (ap (name_at states) (eqb_is i id e) ∙ ap (option_map (λ s. s.value.name)) there)
+    go true e = ap Some same_name ∙ sym (ap (name_at states) (eqb-true i id e) ∙ ap (option_map (λ s. s.value.name)) there)
     go false e = refl

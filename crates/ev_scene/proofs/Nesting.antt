@@ -76,7 +76,7 @@ distinct_flat f (one ∷ ys) d each apart =
     let found = flat_Has f ys x back in
     d.0 (subst (λ n. Has n ys) (sym (apart one found.0 x (inl refl) (inr found.1.0) front found.1.1)) found.1.0))
 
-Has_at : (xs : List ℕ) (k d : ℕ) → k < length xs → Has (get_or xs k d) xs
+pub Has_at : (xs : List ℕ) (k d : ℕ) → k < length xs → Has (get_or xs k d) xs
 Has_at [] k d h = absurd (omega (arith, h))
 Has_at (x ∷ xs) zero d h = inl refl
 Has_at (x ∷ xs) (suc k) d h = inr (Has_at xs k d (omega (arith, h)))

@@ -4,6 +4,7 @@ use Rattle.std.specs.FinMap.{get}
 use Rattle.std.specs.List.{list_all}
 use Rattle.std.specs.Option.{option_map, option_to_list}
 use Rattle.std.proofs.Math.Bool.{true≢false}
+use Rattle.std.proofs.lemmas.Bool.{and_right}
 use Rattle.std.proofs.lemmas.Bool.Decides.{eqb_tells}
 use Rattle.std.proofs.lemmas.Int.{to_z-of_z}
 use Rattle.std.proofs.lemmas.List.{length-map}
@@ -36,11 +37,8 @@ module _ {A : Type 0} (test : A → Bool) (find : ℕ → Option A) where
   fails_in [] x h fails = absurd (true≢false (sym h))
   fails_in (y ∷ ids) x h fails = cons_passes test (find y) (filter_map find ids) ∙ elim (eqb_tells y x) [
     | inl same ↦ ap (λ b. b && list_all test (filter_map find ids)) (ap (λ y. list_all test (option_to_list (find y))) same.1 ∙ fails)
-    | inr differ ↦ ap (λ b. list_all test (option_to_list (find y)) && b) (fails_in ids x (rw differ.0 at h) fails) ∙ never (list_all test (option_to_list (find y)))
-  ] where
-    never : (b : Bool) → (b && false) ≡ false
-    never true = refl
-    never false = refl
+    | inr differ ↦ ap (λ b. list_all test (option_to_list (find y)) && b) (fails_in ids x (rw differ.0 at h) fails) ∙ and_right (list_all test (option_to_list (find y))) false refl
+  ]
 
   -- none fails
   all_pass : (ids : List ℕ) → ((x : ℕ) → Has x ids → list_all test (option_to_list (find x)) ≡ true) → list_all test (filter_map find ids) ≡ true

@@ -1,5 +1,5 @@
 -- The layers of an order that was changed.
-use Rattle.std.proofs.Common.{◌≡◌, ◌≢◌, ℕ, ℤ, Bool, true, false, List, [], ◌∷◌, Option, Some, None, is_some, Result, Ok, Err, OnOk, OnErr, if◌then◌else◌, ◌==◌, int_lt, refl, sym, ap, ◌∙◌, inl, inr, arith}
+use Rattle.std.proofs.Common.{◌≡◌, ◌≢◌, ℕ, ℤ, Bool, true, false, List, [], ◌∷◌, Option, Some, None, is_some, Result, Ok, Err, OnOk, OnErr, if◌then◌else◌, ◌==◌, int_lt, refl, sym, ap, ◌∙◌, inl, inr, arith, eq-eqb}
 use Rattle.std.specs.Ordering.{int_eq}
 use Rattle.std.specs.Cmp.{signed_Decides}
 use Rattle.std.proofs.lemmas.Option.{none-some}
@@ -18,21 +18,24 @@ in_front id q a t = grind (arith, nat_tests)
 behind : (id q head : ℕ) (a b t later : Option ℤ) → head ≢ id → later ≡ (if q == id then a else t) → (if head == q then b else later) ≡ (if q == id then a else if head == q then b else t)
 behind id q head a b t later apart e = grind (arith, nat_tests)
 
+-- the same, where it stands in front or one of the later ones does
+first_or_later : (b : Bool) (one : ℕ × ℤ) (rest new : List (ℕ × ℤ)) (id : ℕ) (layer : ℤ) (q : ℕ) → one.0 ≢ id → layer_in new q ≡ (if q == id then Some layer else layer_in rest q)
+    → layer_in (if b then (id, layer) ∷ one ∷ rest else one ∷ new) q ≡ (if q == id then Some layer else layer_in (one ∷ rest) q)
+first_or_later true one rest new id layer q apart later = in_front id q (Some layer) (layer_in (one ∷ rest) q)
+first_or_later false one rest new id layer q apart later = behind id q one.0 (Some layer) (Some one.1) (layer_in rest q) (layer_in new q) apart later
+
+later_or_first : (b : Bool) (one : ℕ × ℤ) (rest new : List (ℕ × ℤ)) (id : ℕ) (layer : ℤ) (q : ℕ) → one.0 ≢ id → layer_in new q ≡ (if q == id then Some layer else layer_in rest q)
+    → layer_in (if b then one ∷ new else (id, layer) ∷ one ∷ rest) q ≡ (if q == id then Some layer else layer_in (one ∷ rest) q)
+later_or_first true = first_or_later false
+later_or_first false = first_or_later true
+
 pub layer_in-put_top : (xs : List (ℕ × ℤ)) (id : ℕ) (layer : ℤ) (q : ℕ) → IsApart id xs → layer_in (put_top xs id layer) q ≡ (if q == id then Some layer else layer_in xs q)
 layer_in-put_top [] id layer q apart = in_front id q (Some layer) None
-layer_in-put_top (one ∷ rest) id layer q apart = go (int_lt layer one.1) refl (layer_in-put_top rest id layer q apart.1) where
-  go : (b : Bool) → int_lt layer one.1 ≡ b → layer_in (put_top rest id layer) q ≡ (if q == id then Some layer else layer_in rest q)
-      → layer_in (if b then (id, layer) ∷ one ∷ rest else one ∷ put_top rest id layer) q ≡ (if q == id then Some layer else layer_in (one ∷ rest) q)
-  go true e later = in_front id q (Some layer) (layer_in (one ∷ rest) q)
-  go false e later = behind id q one.0 (Some layer) (Some one.1) (layer_in rest q) (layer_in (put_top rest id layer) q) apart.0 later
+layer_in-put_top (one ∷ rest) id layer q apart = first_or_later (int_lt layer one.1) one rest (put_top rest id layer) id layer q apart.0 (layer_in-put_top rest id layer q apart.1)
 
 layer_in-put_bottom : (xs : List (ℕ × ℤ)) (id : ℕ) (layer : ℤ) (q : ℕ) → IsApart id xs → layer_in (put_bottom xs id layer) q ≡ (if q == id then Some layer else layer_in xs q)
 layer_in-put_bottom [] id layer q apart = in_front id q (Some layer) None
-layer_in-put_bottom (one ∷ rest) id layer q apart = go (int_lt one.1 layer) refl (layer_in-put_bottom rest id layer q apart.1) where
-  go : (b : Bool) → int_lt one.1 layer ≡ b → layer_in (put_bottom rest id layer) q ≡ (if q == id then Some layer else layer_in rest q)
-      → layer_in (if b then one ∷ put_bottom rest id layer else (id, layer) ∷ one ∷ rest) q ≡ (if q == id then Some layer else layer_in (one ∷ rest) q)
-  go false e later = in_front id q (Some layer) (layer_in (one ∷ rest) q)
-  go true e later = behind id q one.0 (Some layer) (Some one.1) (layer_in rest q) (layer_in (put_bottom rest id layer) q) apart.0 later
+layer_in-put_bottom (one ∷ rest) id layer q apart = later_or_first (int_lt one.1 layer) one rest (put_bottom rest id layer) id layer q apart.0 (layer_in-put_bottom rest id layer q apart.1)
 
 layer_in-put_above : (xs : List (ℕ × ℤ)) (other id : ℕ) (layer beside : ℤ) (q : ℕ) → IsApart id xs → layer_in xs other ≡ Some beside → layer_in (put_above xs other id layer) q ≡ (if q == id then Some layer else layer_in xs q)
 layer_in-put_above [] other id layer beside q apart there = absurd (none-some beside there)
@@ -103,9 +106,7 @@ pub still_beside : {T : Type 0} (order order' moved : List (ℕ × ℤ)) (id oth
 still_beside order order' moved id other (Err cause) fault ok err stay q = ap (λ order. layer_in order q) err
 still_beside order order' moved id other (Ok done) fault ok err stay q = go (layer_in order id) (layer_in order other) refl refl fault where
   apart : (level : Bool) → None ≡ (if id == other then Some Itself else if level then None else Some Layer) → other ≢ id
-  apart level f e = none-some Itself (f ∙ ap (λ same. if same then Some Itself else if level then None else Some Layer) (eqb_refl id other (sym e))) where
-    eqb_refl : (a b : ℕ) → a ≡ b → (a == b) ≡ true
-    eqb_refl a b e = grind (arith, nat_tests)
+  apart level f e = none-some Itself (f ∙ ap (λ same. if same then Some Itself else if level then None else Some Layer) (eq-eqb id other (sym e)))
 
   go : (own near : Option ℤ) → layer_in order id ≡ own → layer_in order other ≡ near → None ≡ beside_fault own near id other → layer_in order' q ≡ layer_in order q
   go None near e f g = absurd (none-some Unknown g)

@@ -1,7 +1,7 @@
 -- The way up of an object, and what its objects leave to those below.
 use Rattle.std.proofs.Common.{◌≡◌, ◌⊎◌, ◌↔◌, ℕ, zero, suc, ◌+◌, ◌<◌, ℤ, pos, ◌≤ℤ◌, int_lt, Bool, true, false, ◌&&◌, ◌==◌, nat_eq, All, if◌then◌else◌, List, [], ◌∷◌, ◌++◌, length, fold, get_or, Option, Some, None, refl, sym, ap, ap₂, ◌∙◌, subst, inl, inr, arith}
 use Rattle.std.proofs.Math.Bool.{true≢false}
-use Rattle.std.proofs.lemmas.Bool.{and_parts, eqb-true}
+use Rattle.std.proofs.lemmas.Bool.{and_parts, and_right, eqb-true}
 use Rattle.std.proofs.lemmas.Int.{ints}
 use Rattle.std.specs.Prelude.{IsTrue}
 use Rattle.std.specs.List.{list_all}
@@ -23,6 +23,7 @@ use Rattle.ev_model.proofs.Meets.{meet_sides}
 use Rattle.ev_model.specs.declared.object.Object.{Object}
 use Rattle.ev_scene.specs.declared.sights.Sight.{Sight}
 use Rattle.ev_scene.specs.Sights.{over, way, Ends, tinted, is_white, IsColor, TintsAs, IsSight, bare, lowered, AreSights, IsStep, Leads, IsClimbed}
+use Rattle.ev_scene.proofs.Ways as ways
 use Rattle.ev_scene.proofs.Meeting.{cut_last}
 
 chain_none : {A : Type 0} (n : ℕ) (next : A → Option A) → chain n next None ≡ []
@@ -79,13 +80,10 @@ no_way objects at none = ap (chain (length objects) (next objects)) none ∙ cha
 
 tints_none : (objects : List Object) (at : Option ℕ) → way objects at ≡ [] → TintsAs objects at None
 tints_none objects at none = record {
-  ends = ends_none (length objects) (next objects);
+  ends = ways.ends_none (length objects) (next objects);
   shorter = let e : length (way objects None) ≡ 0 = ap length (chain_none (length objects) (next objects)) in omega (arith, e);
   color = λ c is. ap (tinted c) (none ∙ sym (chain_none (length objects) (next objects)));
-} where
-  ends_none : {A : Type 0} (n : ℕ) (next : A → Option A) → ends n next None ≡ true
-  ends_none zero next = refl
-  ends_none (suc n) next = refl
+}
 
 bare_sight : (s : Stage) (at : Option ℕ) → option_and_then (with_id s.objects) at ≡ None → IsSight s at (bare s)
 bare_sight s at none =
@@ -226,13 +224,9 @@ some_left a b m t e is f =
 
 pub none_left : (a b m : Area) (t : Bool) → m ≡ meet a b → (IsTrue t ↔ ((m.w ≡ pos 0) ⊎ (m.h ≡ pos 0))) → t ≡ true → has_pixels m ≡ false
 none_left a b m t e is f = go (is.0 f) where
-  none : (b : Bool) → (b && false) ≡ false
-  none true = refl
-  none false = refl
-
   go : (m.w ≡ pos 0) ⊎ (m.h ≡ pos 0) → has_pixels m ≡ false
   go (inl z) = let w : int_lt (pos 0) m.w ≡ false = grind (arith, ints) in ap (λ t. t && int_lt (pos 0) m.h) w
-  go (inr z) = let h : int_lt (pos 0) m.h ≡ false = grind (arith, ints) in ap (λ t. int_lt (pos 0) m.w && t) h ∙ none (int_lt (pos 0) m.w)
+  go (inr z) = let h : int_lt (pos 0) m.h ≡ false = grind (arith, ints) in ap (λ t. int_lt (pos 0) m.w && t) h ∙ and_right (int_lt (pos 0) m.w) false refl
 
 -- what is seen of an object that is not smart and clips nobody, by the sight from what is over it on
 module _ (s : Stage) (o : Object) (at : Option ℕ) (sight : Sight) (area : Area) (plain : is_smart o ≡ false) (clips_none : clips s o ≡ false) (over_is : at ≡ over o) (is_at : IsSight s at sight) (meets : area ≡ meet sight.area o.rect) where

@@ -1,5 +1,6 @@
 -- Objects that are put at their ids, one after another.
 use Rattle.std.proofs.Common.{◌≡◌, ◌≢◌, ℕ, zero, suc, ◌+◌, ◌-◌, ◌<◌, true, false, ◌||◌, ◌==◌, List, [], ◌∷◌, ◌++◌, All, length, get_or, map, Option, Some, None, if◌then◌else◌, refl, sym, ap, ap₂, ◌∙◌, subst, inl, inr, arith, eq-eqb}
+use Rattle.ev_stack.proofs.Lists.{neq-eqb}
 use Rattle.std.specs.Prelude.{filter_map}
 use Rattle.std.specs.List.{cons_option}
 use Rattle.std.specs.Option.{option_map}
@@ -62,9 +63,6 @@ last_state items rest t states e all =
     get_last [] = refl
     get_last (s ∷ rest) = get_last rest
 
-not_same : (a b : ℕ) → a ≢ b → (a == b) ≡ false
-not_same a b differ = grind (arith, nat_tests)
-
 -- objects that are made of some that stand at their ids, put there: each of those ids stands for what was made
 pub spread_at : (f : Object → Object) → ((o : Object) → (f o).id ≡ o.id) → (objects : List Object) (slots : List (Option Object)) → All (λ o. of_id slots o.id ≡ Some o) objects
     → (q : ℕ) → of_id (spread (map f objects) slots) q ≡ option_map (λ o. if has (map (λ o. o.id) objects) q then f o else o) (of_id slots q)
@@ -82,7 +80,7 @@ spread_at f keeps (p ∷ objects) slots there q =
           let test : (p.id == q) ≡ true = eq-eqb p.id q (sym same.1) in
           rw same.0 (sym (ap₂ (λ b slot. option_map (λ o. if b || has (map (λ o. o.id) objects) q then f o else o) slot) test (ap (of_id slots) same.1 ∙ here)))
       | inr differ ↦
-          let other : (p.id == q) ≡ false = not_same p.id q (λ e. differ.1 (sym e)) in
+          let other : (p.id == q) ≡ false = neq-eqb p.id q (λ e. differ.1 (sym e)) in
           rw differ.0 (rest q ∙ sym (ap (λ b. option_map (λ o. if b || has (map (λ o. o.id) objects) q then f o else o) (of_id slots q)) other))
     ]
 

@@ -106,10 +106,6 @@ rising (one ∷ rest) distinct layered (o ∷ objects) e stand =
     first d [] = d
     first d (x ∷ xs) = x
 
-some_mapped : {A B : Type 0} (f : A → B) (o : Option A) → is_some (option_map f o) ≡ true → is_some o ≡ true
-some_mapped f None e = absurd (true≢false (sym e))
-some_mapped f (Some x) e = refl
-
 some_there : {A : Type 0} (o : Option A) → is_some o ≡ true → (x : A) × (o ≡ Some x)
 some_there None e = absurd (true≢false (sym e))
 some_there (Some x) e = (x, refl)
@@ -163,7 +159,7 @@ module _ {w h : ℕ} {objects : List (Option Object)} {groups : List (List (ℕ 
     over = parent_at (get ties)
 
     there_too : (id : ℕ) → is_some (get ties id) ≡ true → is_there id ≡ true
-    there_too id e = some_mapped tie_of (of_id objects id) (sym (ap is_some (whole.tied id)) ∙ e)
+    there_too id e = sym (way.is_some_map tie_of (of_id objects id)) ∙ sym (ap is_some (whole.tied id)) ∙ e
 
     known : (q to : ℕ) → over q ≡ Some to → is_there to ≡ true
     known q to e = there_too to (parent_there (get ties) sound q to e)

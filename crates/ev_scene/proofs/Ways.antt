@@ -38,13 +38,13 @@ lookup_with_id (o ∷ objects) id =
       | false ↦ lookup_with_id objects id
     ])
 
-is_some_map : {A B : Type 0} (f : A → B) (o : Option A) → is_some (option_map f o) ≡ is_some o
+pub is_some_map : {A B : Type 0} (f : A → B) (o : Option A) → is_some (option_map f o) ≡ is_some o
 is_some_map f None = refl
 is_some_map f (Some x) = refl
 
 -- ---- ways
 
-ends_none : {A : Type 0} (n : ℕ) (step : A → Option A) → ends n step None ≡ true
+pub ends_none : {A : Type 0} (n : ℕ) (step : A → Option A) → ends n step None ≡ true
 ends_none zero step = refl
 ends_none (suc n) step = refl
 
