@@ -1,5 +1,5 @@
 -- What a look-up of a name answers.
-use Rattle.std.proofs.Common.{◌≡◌, ℕ, ◌+◌, ◌-◌, ◌<◌, ◌≤◌, true, false, cond, if◌then◌else◌, List, [], ◌∷◌, ◌++◌, length, Option, Some, None, is_some, IfSome, option_copied, Bor, refl, sym, ap, ◌∙◌, subst, ◌==◌, arith}
+use Rattle.std.proofs.Common.{◌≡◌, ℕ, ◌+◌, ◌-◌, true, false, cond, if◌then◌else◌, List, [], ◌∷◌, ◌++◌, length, Option, Some, None, is_some, IfSome, option_copied, Bor, refl, sym, ap, ◌∙◌, subst, ◌==◌, arith}
 use Rattle.std.specs.Option.{option_map}
 use Rattle.ev_state.specs.Held.{Held}
 use Rattle.ev_model.specs.declared.object.Object.{Object}
@@ -14,7 +14,7 @@ use Rattle.ev_scene.specs.declared.change.Change.TheVariants as change
 use Rattle.ev_scene.specs.Board.{named, values_of}
 use Rattle.ev_scene.specs.Roll.{same_label, id_in, name_at, IsRoll, IsStateOf}
 use Rattle.ev_scene.specs.declared.label.Label.{Label}
-use Rattle.ev_scene.proofs.Places.{of_id_map, of_id_put, id_low, id_high}
+use Rattle.ev_scene.proofs.Places.{of_id_map, of_id_put}
 use Rattle.ev_scene.proofs.Naming.{held_at, name_held, NamedBy, named_by, unnamed, free_name, own_value, added, removed, changed}
 
 -- a change leaves the id and the name

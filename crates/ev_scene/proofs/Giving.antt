@@ -2,7 +2,7 @@
 use Rattle.std.proofs.Common.{◌≡◌, ℕ, zero, suc, Bool, true, false, cond, if◌then◌else◌, List, [], ◌∷◌, ◌++◌, map, slice_set, Option, Some, None, ◌⊎◌, inl, inr, refl, sym, subst, ◌∙◌}
 use Rattle.std.specs.List.{find}
 use Rattle.std.specs.Option.{option_map, option_and_then, option_map_or, option_eq}
-use Rattle.std.specs.Prelude.{nat_eq, All, IfSome, ℤ, ◌-ℤ◌, ◌==◌}
+use Rattle.std.specs.Prelude.{nat_eq, All, IfSome, ℤ, ◌-ℤ◌}
 use Rattle.std.proofs.lemmas.Option.{none-some, same_Some, IfSome_then}
 use Rattle.ev_model.specs.Glyphs.{Glyphs}
 use Rattle.ev_model.specs.Loaded.{Loaded}

@@ -1,5 +1,5 @@
 -- What a move answers.
-use Rattle.std.proofs.Common.{◌≡◌, ℕ, ℤ, ◌+◌, ◌≤◌, ◌+ℤ◌, ◌-ℤ◌, Bool, true, false, ◌&&◌, List, length, pos, int_eq, Option, Some, None, Result, Ok, Err, OnOk, IfErr, if◌then◌else◌, FitsSigned, w64, to_z, of_z, refl, sym, ap, ap₂, ◌∙◌, subst, arith}
+use Rattle.std.proofs.Common.{◌≡◌, ℕ, ℤ, ◌+ℤ◌, ◌-ℤ◌, Bool, true, false, ◌&&◌, List, length, pos, int_eq, Option, Some, None, Result, Ok, Err, OnOk, IfErr, if◌then◌else◌, FitsSigned, w64, to_z, of_z, refl, sym, ap, ap₂, ◌∙◌, subst, arith}
 use Rattle.std.specs.List.{cons_option, list_all}
 use Rattle.std.specs.Option.{option_map, option_map_or}
 use Rattle.std.specs.Result.{IsErrAnd}

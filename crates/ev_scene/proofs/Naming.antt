@@ -12,7 +12,7 @@ use Rattle.ev_scene.specs.Slots.{of_id, put, live, value_of}
 use Rattle.ev_scene.specs.Board.{is_named, named, values_of}
 use Rattle.ev_scene.specs.Roll.{id_in, name_at, IsRoll}
 use Rattle.ev_scene.specs.declared.label.Label.{Label}
-use Rattle.ev_scene.proofs.Places.{at_place, at_map, of_id_suc, of_id_map, of_id_put, of_id_end, past_end, map_choice, some_choice, found, none_found, live_put, live_taken, live_end}
+use Rattle.ev_scene.proofs.Places.{at_place, of_id_suc, of_id_map, of_id_put, of_id_end, past_end, map_choice, some_choice, found, none_found, live_put, live_taken, live_end}
 
 -- the state of an id, whose object has a name and is found by it
 pub record NamedBy (states : List (Option (Held Object))) (name : List ℕ) (id : ℕ) : Type 0 where

@@ -1,18 +1,18 @@
 -- What an object clips, and what is made of it when the object goes.
-use Rattle.std.proofs.Common.{◌≡◌, ℕ, zero, suc, ℤ, ◌<◌, ◌≤◌, ◌+◌, Bool, true, false, ◌==◌, ◌||◌, ◌&&◌, if◌then◌else◌, List, [], ◌∷◌, ◌++◌, length, map, filter, filter_map, option_to_list, Option, Some, None, All, inl, inr, refl, sym, subst, ap, ◌∙◌, arith}
+use Rattle.std.proofs.Common.{◌≡◌, ℕ, suc, ℤ, ◌<◌, ◌+◌, Bool, true, false, ◌==◌, ◌||◌, ◌&&◌, if◌then◌else◌, List, [], ◌∷◌, ◌++◌, length, map, filter, filter_map, option_to_list, Option, Some, None, All, inl, inr, refl, sym, subst, ap, ◌∙◌, arith}
 use Rattle.std.specs.FinMap.{get}
 use Rattle.std.specs.List.{cons_option}
 use Rattle.std.specs.Option.{option_map, option_and_then, option_map_or}
 use Rattle.std.proofs.Math.Bool.{true≢false}
 use Rattle.std.proofs.lemmas.Bool.{and_right}
 use Rattle.std.proofs.lemmas.Bool.Decides.{nat_tests, eqb_tells}
-use Rattle.std.proofs.lemmas.Option.{none-some, same_Some}
+use Rattle.std.proofs.lemmas.Option.{same_Some}
 use Rattle.std.proofs.lemmas.List.{map-append, length-append, append_assoc, append-nil}
-use Rattle.std.proofs.lemmas.List.Elements.{filter-append, All-filter, All-map}
+use Rattle.std.proofs.lemmas.List.Elements.{filter-append, All-filter}
 use Rattle.ev_state.specs.Held.{Held}
 use Rattle.ev_model.specs.Up.{is_clipped_by}
 use Rattle.ev_model.specs.declared.object.Object.{Object}
-use Rattle.ev_stack.specs.Order.{layer_in, ids_of, ids_above, ids_from}
+use Rattle.ev_stack.specs.Order.{layer_in, ids_above, ids_from}
 use Rattle.ev_groups.specs.Groups.{group, siblings}
 use Rattle.ev_links.specs.Ties.{Ties, clipper_at, has, IsSound, Counts}
 use Rattle.ev_links.proofs.Counts.{Counts-none}
@@ -21,12 +21,11 @@ use Rattle.ev_scene.specs.Slots.{of_id, spread, value_of}
 use Rattle.ev_scene.specs.Board.{Board, MakesAtMost, values_of}
 use Rattle.ev_scene.specs.Change.{apply}
 use Rattle.ev_scene.specs.Edits.{clipped_by}
-use Rattle.ev_scene.specs.Roll.{name_at, IsStateOf}
+use Rattle.ev_scene.specs.Roll.{IsStateOf}
 use Rattle.ev_scene.specs.Ties.{tie_of}
 use Rattle.ev_scene.specs.Whole.{IsWhole}
 use Rattle.ev_scene.specs.declared.change.Change.TheVariants as change
 use Rattle.ev_scene.proofs.Making.{makes_both}
-use Rattle.ev_scene.proofs.Places.{of_id_map}
 use Rattle.ev_scene.proofs.Shifting as shift
 use Rattle.ev_scene.proofs.Standing.{stands_in}
 use Rattle.ev_scene.proofs.Trees.{has_layer, clipper_is, parent_is}

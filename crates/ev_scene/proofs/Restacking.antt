@@ -1,5 +1,5 @@
 -- The layers of an order that was changed.
-use Rattle.std.proofs.Common.{◌≡◌, ◌≢◌, ℕ, ℤ, Bool, true, false, List, [], ◌∷◌, Option, Some, None, is_some, Result, Ok, Err, OnOk, OnErr, if◌then◌else◌, ◌==◌, int_lt, refl, sym, ap, ◌∙◌, inl, inr, arith, eq-eqb}
+use Rattle.std.proofs.Common.{◌≡◌, ◌≢◌, ℕ, ℤ, Bool, true, false, List, [], ◌∷◌, Option, Some, None, Result, Ok, Err, OnOk, OnErr, if◌then◌else◌, ◌==◌, int_lt, refl, sym, ap, ◌∙◌, inl, inr, arith, eq-eqb}
 use Rattle.std.specs.Ordering.{int_eq}
 use Rattle.std.specs.Cmp.{signed_Decides}
 use Rattle.std.proofs.lemmas.Option.{none-some}
@@ -8,7 +8,7 @@ use Rattle.ev_stack.specs.Order.{layer_in, IsApart, IsDistinct, without, put_top
 use Rattle.std.specs.Result.{result_err}
 use Rattle.ev_stack.specs.declared.siblings.StackErr.{StackErr}
 use Rattle.ev_stack.specs.declared.siblings.StackErr.TheVariants.{Unknown, Itself, Layer}
-use Rattle.ev_stack.specs.Calls.{known_fault, beside_fault, place_fault, raised, lowered, relayered, placed_above, placed_below}
+use Rattle.ev_stack.specs.Calls.{beside_fault, place_fault, raised, lowered, relayered, placed_above, placed_below}
 use Rattle.ev_stack.proofs.Lists.{apart_without, layer_in_absent, layer_in-without}
 
 -- one more entry, in front or behind another

@@ -1,11 +1,10 @@
 -- What ties refuse is what an edit of clippers and parents refuses, and what such an edit answers.
 use Rattle.std.proofs.Common.{◌≡◌, ℕ, Bool, true, false, ◌==◌, List, [], ◌∷◌, map, cond, Option, Some, None, Result, Ok, Err, is_some, if◌then◌else◌, refl, sym, subst, ap, ◌∙◌, arith}
 use Rattle.std.proofs.lemmas.Bool.Decides.{nat_tests}
-use Rattle.std.proofs.lemmas.Option.{none-some}
 use Rattle.std.specs.Ordering.{eq_by_cmp, nat_cmp}
 use Rattle.std.specs.Prelude.{nat_eq}
 use Rattle.std.specs.Cmp.{nat_cmp_total}
-use Rattle.std.specs.FinMap.{get, find, get-from_entries, same_map, nat_cmp-IsAntisymmetric}
+use Rattle.std.specs.FinMap.{find, get-from_entries, same_map, nat_cmp-IsAntisymmetric}
 use Rattle.std.specs.Option.{option_map, option_map_or, option_eq}
 use Rattle.std.specs.Result.{IsErrAnd}
 use Rattle.ev_state.specs.Held.{Held}
@@ -13,10 +12,10 @@ use Rattle.ev_model.specs.Up.{with_id}
 use Rattle.ev_model.specs.declared.object.Object.{Object}
 use Rattle.ev_model.specs.declared.refusal.Refusal.{Refusal}
 use Rattle.ev_model.specs.declared.refusal.Refusal.TheVariants as refusal
-use Rattle.ev_links.specs.Ties.{Tie, Ties}
+use Rattle.ev_links.specs.Ties.{Ties}
 use Rattle.ev_links.specs.Calls.{clip_fault, join_fault, leave_fault}
 use Rattle.ev_links.specs.declared.refusal.LinkErr.{LinkErr}
-use Rattle.ev_scene.specs.Slots.{of_id, put, live, value_of}
+use Rattle.ev_scene.specs.Slots.{of_id, put, live}
 use Rattle.ev_scene.specs.Board.{Board, named, values_of, ties_on}
 use Rattle.ev_scene.specs.Change.{apply}
 use Rattle.ev_scene.specs.Edits.{known, clip_verdict, join_verdict, leave_verdict, with_named, changed, rehomed, homed, Refuses, Answers}
@@ -26,7 +25,6 @@ use Rattle.ev_scene.specs.Whole.{IsWhole}
 use Rattle.ev_scene.specs.declared.change.Change.{Change}
 use Rattle.ev_scene.specs.declared.change.Change.TheVariants as change
 use Rattle.ev_scene.proofs.Naming.{held_at}
-use Rattle.ev_scene.proofs.Places.{of_id_map}
 use Rattle.ev_scene.proofs.Trees.{live_found}
 
 -- the ties of objects are found by their ids

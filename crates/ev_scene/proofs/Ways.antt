@@ -7,7 +7,7 @@ use Rattle.std.proofs.Math.Bool.{true≢false}
 use Rattle.std.specs.Prelude.{nat_eq, IsTrue, IsSome, IfSome}
 use Rattle.std.specs.Option.{option_map, option_and_then, option_or}
 use Rattle.std.specs.Map.{lookup}
-use Rattle.ev_links.specs.Ties.{Tie, next_at, clipper_at, parent_at, IsWay, IsSound}
+use Rattle.ev_links.specs.Ties.{Tie, next_at, IsWay, IsSound}
 use Rattle.ev_links.proofs.Fits.{way_within}
 use Rattle.ev_links.proofs.Sound.{next_there, clipper_there, parent_there}
 use Rattle.ev_model.specs.Captured.{IsLinked}

@@ -1,6 +1,6 @@
 -- Edits of a scene: when each is refused, and what it does.
-use Rattle.std.specs.Prelude.{◌≡◌, ◌≢◌, ℕ, ◌+◌, ℤ, ◌+ℤ◌, ◌-ℤ◌, ◌≤ℤ◌, pos, neg_ℤ, Bool, true, false, not, ◌&&◌, ◌||◌, ◌==◌, nat_eq, nat_lt, unsigned_abs, if◌then◌else◌, List, [], ◌∷◌, ◌++◌, length, map, filter, filter_map, Option, Some, None, is_some, Result, MatchResult}
-use Rattle.std.specs.List.{list_any, list_all}
+use Rattle.std.specs.Prelude.{◌≡◌, ◌≢◌, ℕ, ◌+◌, ℤ, ◌+ℤ◌, ◌-ℤ◌, ◌≤ℤ◌, pos, neg_ℤ, Bool, true, false, not, ◌&&◌, ◌==◌, nat_eq, nat_lt, unsigned_abs, if◌then◌else◌, List, [], ◌∷◌, ◌++◌, length, map, filter, filter_map, Option, Some, None, Result, MatchResult}
+use Rattle.std.specs.List.{list_all}
 use Rattle.std.specs.Option.{option_eq, option_map, option_map_or, option_and_then}
 use Rattle.std.specs.Ordering.{int_eq}
 use Rattle.ev_geom.specs.Area.{is_place, is_side}
