@@ -1,13 +1,13 @@
 -- Captured scenes are drawn by their records.
 use Rattle.std.proofs.Common.{◌≡◌, ℕ, All, List, map, sym, ap, ◌∙◌, subst}
 use Rattle.ev_argb.specs.Grid.{Grid}
-use Rattle.ev_model.specs.Capture.{Capture, capture_of, capture_on, IsLookOn}
+use Rattle.ev_model.specs.Capture.{capture_of, capture_on, IsLookOn}
 use Rattle.ev_model.specs.Look.{Look, look_of, looks}
 use Rattle.ev_model.specs.Paint.{IsRedrawn}
 use Rattle.ev_model.specs.Stage.{stage}
 use Rattle.ev_model.specs.declared.scene.Record.{Record}
 use Rattle.ev_scene.specs.Captured.{Shot, IsShot}
-use Rattle.ev_damage.specs.Places.{look_ids, HaveOwnIds}
+use Rattle.ev_damage.specs.Places.{HaveOwnIds}
 
 -- the ids of what is seen of a captured scene differ
 pub own_looks : (shot : Shot) → IsShot shot → HaveOwnIds (looks (stage shot.scene))

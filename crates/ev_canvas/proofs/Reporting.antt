@@ -1,9 +1,8 @@
 -- Each pixel in which a frame differs from the one shown before lies in its updates.
-use Rattle.std.proofs.Common.{◌≡◌, ◌≢◌, ℕ, ◌+◌, ◌*◌, ◌<◌, ◌≤◌, pos, ℤ, Bool, true, false, not, ◌&&◌, ◌||◌, ◌==◌, List, [], ◌∷◌, ◌++◌, length, Option, Some, None, IfSome, refl, sym, ap, ap₂, subst, ◌∙◌, arith}
+use Rattle.std.proofs.Common.{◌≡◌, ℕ, ◌<◌, pos, Bool, true, false, not, ◌&&◌, ◌||◌, List, [], ◌∷◌, ◌++◌, Option, Some, None, IfSome, refl, sym, ap, subst, ◌∙◌, arith}
 use Rattle.std.proofs.Math.Bool.{true≢false}
 use Rattle.std.proofs.lemmas.Bool.Decides.{nat_tests}
 use Rattle.std.proofs.lemmas.Int.{ints}
-use Rattle.ev_argb.specs.Argb.{Argb}
 use Rattle.ev_geom.specs.Area.{Area, holds}
 use Rattle.ev_geom.specs.Bands.{has_pixel}
 use Rattle.ev_geom.specs.Snap.{SharesCell}
@@ -14,7 +13,7 @@ use Rattle.ev_damage.specs.Damage.{is_damaged}
 use Rattle.ev_damage.specs.Places.{HaveOwnIds}
 use Rattle.ev_damage.specs.Stay.{HaveOneLoad}
 use Rattle.ev_damage.proofs.Painting.{still}
-use Rattle.ev_canvas.specs.Starts.{Entry, Latest, Starts, Owes, OwesIf, OwesOn, left, is_running, is_shown, is_lost, has_size_of, touched}
+use Rattle.ev_canvas.specs.Starts.{Entry, Latest, Starts, OwesIf, OwesOn, left, is_running, is_shown, has_size_of, touched}
 use Rattle.ev_canvas.specs.Chain.{newest_of, AreStarts, AreComparable, Showing, frame_pixel, IsShowing, ShowsLast, Shows, Reports, AreReportedAfter, AreReported}
 use Rattle.ev_canvas.specs.declared.newest.End.{End}
 use Rattle.ev_canvas.specs.declared.newest.End.TheVariants as end

@@ -1,5 +1,5 @@
 -- The calls of a canvas: what each may answer and leave. Contracts of `Canvas` and steps of the machine cite them.
-use Rattle.std.specs.Prelude.{◌≡◌, ℕ, ℤ, Bool, true, List, [], Option, Some, is_some, Result, Ok, Err}
+use Rattle.std.specs.Prelude.{◌≡◌, ℕ, ℤ, Bool, true, List, [], Option, is_some, Result}
 use Rattle.ev_geom.specs.Area.{Area, limited}
 use Rattle.ev_model.specs.Capture.{capture_of}
 use Rattle.ev_model.specs.declared.command.Edit.{Edit}

@@ -1,5 +1,5 @@
 -- What is seen of a canvas.
-use Rattle.std.specs.Prelude.{◌≡◌, ℕ, ◌≤◌, List, [], ◌∷◌, Option, Some, None, IfSome, option_map, if◌then◌else◌}
+use Rattle.std.specs.Prelude.{◌≡◌, ◌≤◌, List, [], ◌∷◌, Option, Some, None, IfSome, option_map, if◌then◌else◌}
 use Rattle.ev_geom.specs.Area.{Area}
 use Rattle.ev_model.specs.Capture.{capture_of}
 use Rattle.ev_model.specs.Paint.{IsRedrawn}

@@ -1,5 +1,5 @@
 -- The frames of a canvas: what stands of them, and what starts, flushes and looks do.
-use Rattle.std.specs.Prelude.{◌≡◌, ℕ, ◌*◌, ◌≤◌, Bool, true, false, List, [], ◌∷◌, ◌++◌, Option, Some, None, option_map, IfSome, Result, Ok, Err, if◌then◌else◌}
+use Rattle.std.specs.Prelude.{◌≡◌, ℕ, ◌*◌, Bool, true, false, List, [], ◌∷◌, ◌++◌, Option, Some, None, option_map, Result, Ok, Err, if◌then◌else◌}
 use Rattle.ev_argb.specs.Grid.{Grid}
 use Rattle.ev_geom.specs.Area.{Area}
 use Rattle.ev_geom.specs.Tiles.{tiles_along}

@@ -16,4 +16,4 @@ returns-in_err-edit-clause-events c = c.requires.taken
 
 pub returns-clause-live : goal.returns-clause-live
 returns-clause-live c = subst (λ (l : Loads). HaveObjects (board c.edit.new.self) l.running) (sym c.sweep.ensures.loads)
-    (live_deleted (board c.args.scene.now) (board c.edit.new.self) c.args.edit.now c.edit.result c.args.preloads.now.running c.requires.delete c.edit.ensures.edits c.requires.live)
+    (live_deleted (board c.args.scene.now) (board c.edit.new.self) c.args.name.now c.edit.result c.args.preloads.now.running c.edit.ensures.edits c.requires.live)
