@@ -13,6 +13,8 @@ use Rattle.ev_damage.specs.Damage.{is_damaged}
 use Rattle.ev_damage.specs.Places.{HaveOwnIds}
 use Rattle.ev_damage.specs.Stay.{HaveOneLoad}
 use Rattle.ev_damage.proofs.Painting.{still}
+use Rattle.std.proofs.lemmas.Bool.{false_from_ne_true, true_from_ne_false}
+use Rattle.ev_preload.proofs.Running.{or_first, or_last}
 use Rattle.ev_canvas.specs.Starts.{Entry, Latest, Starts, OwesIf, OwesOn, left, is_running, is_shown, has_size_of, touched}
 use Rattle.ev_canvas.specs.Chain.{newest_of, AreStarts, AreComparable, Showing, frame_pixel, IsShowing, ShowsLast, Shows, Reports, AreReportedAfter, AreReported}
 use Rattle.ev_canvas.specs.declared.newest.End.{End}
@@ -22,24 +24,10 @@ use Rattle.ev_canvas.specs.declared.newest.End.TheVariants as end
 on_canvas : (s : Capture) (x y : ℕ) → x < s.w → y < s.h → holds (canvas_on s.w s.h) (pos x) (pos y) ≡ true
 on_canvas s x y column row = grind (arith, ints)
 
--- of two tests that both fail
-left_fails : (a b : Bool) → (a || b) ≡ false → a ≡ false
-left_fails false b e = refl
-left_fails true b e = absurd (true≢false e)
-
-right_fails : (a b : Bool) → (a || b) ≡ false → b ≡ false
-right_fails false b e = e
-right_fails true b e = absurd (true≢false e)
-
 -- what fails with a test that passes fails by itself
 front_fails : (a b : Bool) → (a && b) ≡ false → b ≡ true → a ≡ false
 front_fails false b e passes = refl
 front_fails true b e passes = absurd (true≢false (sym passes ∙ e))
-
--- a test whose passing can't be is false
-never_passes : (b : Bool) → (b ≡ true → ⊥) → b ≡ false
-never_passes false fails = refl
-never_passes true fails = absurd (fails refl)
 
 -- what a frame left, or may still leave: all that it owed and what was hidden, unless it was shown
 abbrev unsettled : Latest → ℕ → ℕ → Bool
@@ -64,19 +52,19 @@ pub record IsSettled (before : Latest) (now : Capture) (x y : ℕ) : Type 0 wher
 -- a pixel that lies in none of the cells that were touched wasn't touched
 untouched : (cell : ℕ) (before now : Capture) (given cells : List Area) (x y : ℕ) → x < now.w → y < now.h → ((x y : ℕ) → x < now.w → y < now.h → SharesCell cell (touched before now given) x y → has_pixel cells (pos x) (pos y) ≡ true) → has_pixel cells (pos x) (pos y) ≡ false → touched before now given (pos x) (pos y) ≡ false
 untouched cell before now given cells x y column row whole outside =
-    never_passes (touched before now given (pos x) (pos y)) (λ held. true≢false (sym (whole x y column row (record { column = x; row = y; held = held; across = refl; down = refl })) ∙ outside))
+    false_from_ne_true (touched before now given (pos x) (pos y)) (λ held. true≢false (sym (whole x y column row (record { column = x; row = y; held = held; across = refl; down = refl })) ∙ outside))
 
 unowed_on : (cell : ℕ) (before : Latest) (now : Capture) (given owed : List Area) (x y : ℕ) → x < now.w → y < now.h → HaveOwnIds before.entry.capture.looks → HaveOwnIds now.looks → HaveOneLoad before.entry.capture.looks now.looks → before.entry.capture.w ≡ now.w → before.entry.capture.h ≡ now.h → OwesOn cell before now given owed → has_pixel owed (pos x) (pos y) ≡ false → IsSettled before now x y
 unowed_on cell before now given owed x y column row own_before own_now loads width height owes unowed =
     let none = sym (owes.pixels.pixels (pos x) (pos y)) ∙ unowed in
-    let uncelled = left_fails (has_pixel owes.cells (pos x) (pos y)) (left before (pos x) (pos y)) none in
+    let uncelled = or_first (has_pixel owes.cells (pos x) (pos y)) (left before (pos x) (pos y)) none in
     let untouched_here = untouched cell before.entry.capture now given owes.cells x y column row owes.snapped.whole uncelled in
     let changed = is_damaged before.entry.capture.looks now.looks (pos x) (pos y) in
-    let undamaged = left_fails changed (has_pixel given (pos x) (pos y)) (front_fails (changed || has_pixel given (pos x) (pos y)) (holds (canvas_on now.w now.h) (pos x) (pos y)) untouched_here (on_canvas now x y column row)) in
+    let undamaged = or_first changed (has_pixel given (pos x) (pos y)) (front_fails (changed || has_pixel given (pos x) (pos y)) (holds (canvas_on now.w now.h) (pos x) (pos y)) untouched_here (on_canvas now x y column row)) in
     record {
       width = width;
       height = height;
-      unleft = right_fails (has_pixel owes.cells (pos x) (pos y)) (left before (pos x) (pos y)) none;
+      unleft = or_last (has_pixel owes.cells (pos x) (pos y)) (left before (pos x) (pos y)) none;
       same = (still before.entry.capture now x y own_before own_now loads undamaged).pixel;
     }
 
@@ -130,12 +118,12 @@ current cell (latest ∷ older) showings (given, areas, starts, ended, chain) (o
   where
     by : (b : Bool) → is_shown latest.end ≡ b → ShowsLast b latest.entry (Shows older) showings → ((earlier : List Showing) → Shows older earlier → AreCurrent older earlier) → AreCurrent (latest ∷ older) showings
     by true shown (earlier, last, before, showing, is) earlier_is =
-        let here : IsCurrent last latest = λ width height x y column row none. showing.pixels x y column row (right_fails (not (is_shown latest.end) && has_pixel latest.entry.owed (pos x) (pos y)) (has_pixel latest.entry.hidden (pos x) (pos y)) none) in
+        let here : IsCurrent last latest = λ width height x y column row none. showing.pixels x y column row (or_last (not (is_shown latest.end) && has_pixel latest.entry.owed (pos x) (pos y)) (has_pixel latest.entry.hidden (pos x) (pos y)) none) in
         subst (λ list. AreCurrent (latest ∷ older) list) (sym is) (subst (λ o. IfSome o (λ s. IsCurrent s latest)) (sym (last_more earlier last)) here)
     by false unshown before earlier_is =
         if_some (last_of showings) (λ s. IsCurrent s latest) (λ showing is width height x y column row none.
         shows_still cell latest older given areas showings showing starts ended own loads comparable (earlier_is showings before) is before width height x y column row
-        (by_not (is_shown latest.end) (has_pixel latest.entry.owed (pos x) (pos y)) unshown (left_fails (not (is_shown latest.end) && has_pixel latest.entry.owed (pos x) (pos y)) (has_pixel latest.entry.hidden (pos x) (pos y)) none)))
+        (by_not (is_shown latest.end) (has_pixel latest.entry.owed (pos x) (pos y)) unshown (or_first (not (is_shown latest.end) && has_pixel latest.entry.owed (pos x) (pos y)) (has_pixel latest.entry.hidden (pos x) (pos y)) none)))
 
 -- one more frame, which reports in what it differs from the last
 reported_more : (first : Showing) (earlier : List Showing) (last : Showing) → AreReportedAfter first earlier → IfSome (last_of (first ∷ earlier)) (λ s. Reports s last) → AreReportedAfter first (earlier ++ last ∷ [])
@@ -150,10 +138,6 @@ reported_on (first ∷ earlier) last reported reports = reported_more first earl
 updated : (cell : ℕ) (before : Option Latest) (now : Capture) (given areas : List Area) (entry : Entry) (x y : ℕ) → Starts cell before now given areas entry → has_pixel entry.owed (pos x) (pos y) ≡ true → has_pixel entry.hidden (pos x) (pos y) ≡ false → has_pixel entry.updates (pos x) (pos y) ≡ true
 updated cell before now given areas entry x y starts owed unhidden = starts.updates.pixels (pos x) (pos y) ∙ rw (owed, unhidden) refl
 
-passes : (b : Bool) → (b ≡ false → ⊥) → b ≡ true
-passes true fails = refl
-passes false fails = absurd (fails refl)
-
 -- what was shown of a chain of starts is reported
 pub reported : (cell : ℕ) (starts : List Latest) (showings : List Showing) → AreStarts cell starts → AreComparable starts → Shows starts showings → AreReported showings
 reported cell [] showings chain comparable shows = subst AreReported (sym shows) tt
@@ -164,7 +148,7 @@ reported cell (latest ∷ older) showings (given, areas, starts, ended, chain) (
         let column_here : x < latest.entry.capture.w = omega (arith, column, showing.width) in
         let row_here : y < latest.entry.capture.h = omega (arith, row, showing.height) in
         let unhidden_here : has_pixel latest.entry.hidden (pos x) (pos y) ≡ false = ap (λ areas. has_pixel areas (pos x) (pos y)) (sym showing.hidden) ∙ unhidden in
-        let owed : has_pixel latest.entry.owed (pos x) (pos y) ≡ true = passes (has_pixel latest.entry.owed (pos x) (pos y)) (λ unowed.
+        let owed : has_pixel latest.entry.owed (pos x) (pos y) ≡ true = true_from_ne_false (has_pixel latest.entry.owed (pos x) (pos y)) (λ unowed.
         differ (shows_still cell latest older given areas earlier f starts ended own loads comparable is_current is before (width ∙ showing.width) (height ∙ showing.height) x y column_here row_here unowed ∙ sym (showing.pixels x y column_here row_here unhidden_here))) in
         ap (λ areas. has_pixel areas (pos x) (pos y)) showing.updates ∙ updated cell (newest_of older) latest.entry.capture given areas latest.entry x y starts owed unhidden_here
 

@@ -31,7 +31,9 @@ impl Canvas {
 
     /// The picture of the frame drawn last. `Busy`: a frame is running. `NoFrame`: none was drawn.
     pub fn picture(&self) -> Result<&Picture, NoPicture>
-        ensures { MatchResult result (λ picture. IsPictureOf self.now.frames.newest (Ok picture.now)) (λ cause. IsPictureOf self.now.frames.newest (Err cause)) }
+        ensures { MatchResult result
+            (λ picture. IsPictureOf self.now.frames.newest (Ok picture.now))
+            (λ cause. IsPictureOf self.now.frames.newest (Err cause)) }
     {
         match &self.newest {
             None => Err(NoPicture::NoFrame),

@@ -58,7 +58,8 @@ pub(crate) struct Newest {
 impl Newest {
     /// What its frame leaves to the next start.
     pub(crate) fn left(&self) -> Result<Region, NoMemory>
-        ensures { IfOk result (λ region. (x y : ℤ) → has_pixel region x y ≡ left (latest_of self.now) x y) }
+        ensures { IfOk result (λ region. (x y : ℤ)
+            → has_pixel region x y ≡ left (latest_of self.now) x y) }
     {
         if !self.end.is_lost() {
             return self.hidden.copied();

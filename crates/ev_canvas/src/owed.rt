@@ -42,7 +42,8 @@ pub(crate) fn on_canvas(alloc: Global, areas: &[Rect], canvas: &Rect) -> Result<
 // Adds the common pixels of two rectangles.
 fn add_meet(region: &mut Region, one: &Rect, other: &Rect) -> Result<(), NoMemory>
     requires { FitsRegion other.now }
-    ensures { OnOk result (Adds (λ x y. holds one.now x y && holds other.now x y) region.old region.new) }
+    ensures { OnOk result
+        (Adds (λ x y. holds one.now x y && holds other.now x y) region.old region.new) }
 {
     let both = one.meet(other);
     if !both.is_empty() {
@@ -62,7 +63,8 @@ pub(crate) fn owed(
 ) -> Result<Region, NoMemory>
     requires low { 1 ≤ cell }
     requires high { cell ≤ 64 }
-    ensures { IfOk result (Owes cell (option_map latest_of before.now) (capture_of (stage now.now.scene)) given.now) }
+    ensures { IfOk result (Owes cell (option_map latest_of before.now)
+        (capture_of (stage now.now.scene)) given.now) }
 {
     match before {
         None => whole(alloc, now),
@@ -96,7 +98,8 @@ fn owed_after(
 ) -> Result<Region, NoMemory>
     requires low { 1 ≤ cell }
     requires high { cell ≤ 64 }
-    ensures { IfOk result (Owes cell (Some (latest_of before.now)) (capture_of (stage now.now.scene)) given.now) }
+    ensures { IfOk result (Owes cell (Some (latest_of before.now))
+        (capture_of (stage now.now.scene)) given.now) }
 {
     if has_size_of(before.shot.scene(), now.scene()) {
         owed_on(alloc, cell, before, now, given)
@@ -115,7 +118,8 @@ fn owed_on(
 ) -> Result<Region, NoMemory>
     requires low { 1 ≤ cell }
     requires high { cell ≤ 64 }
-    ensures { IfOk result (OwesOn cell (latest_of before.now) (capture_of (stage now.now.scene)) given.now) }
+    ensures { IfOk result (OwesOn cell (latest_of before.now) (capture_of (stage now.now.scene))
+        given.now) }
 {
     let touched = touched(alloc, &before.shot, now, given)?;
     let scene = now.scene();
@@ -131,7 +135,8 @@ fn touched(
     now: &Captured,
     given: &[Rect],
 ) -> Result<Region, NoMemory>
-    ensures { IfOk result (IsBandsOf (touched (capture_of (stage before.now.scene)) (capture_of (stage now.now.scene)) given.now)) }
+    ensures { IfOk result (IsBandsOf (touched (capture_of (stage before.now.scene))
+        (capture_of (stage now.now.scene)) given.now)) }
 {
     let canvas = canvas(now.scene());
     let given = on_canvas(alloc, given, &canvas)?;

@@ -64,7 +64,9 @@ impl Canvas {
         requires count { last_number self.now.frames.newest < 2 ^ 40 }
         ensures drawn { IfOk result IsDrawn }
         ensures running { IfOk result (λ next. next.end ≡ Running) }
-        ensures starts { IfOk result (λ next. Starts self.now.setup.cell self.now.frames.newest (capture_of (stage shot.scene)) self.now.frames.given self.now.frames.areas (entry_of next)) }
+        ensures starts { IfOk result (λ next. Starts self.now.setup.cell self.now.frames.newest
+            (capture_of (stage shot.scene)) self.now.frames.given self.now.frames.areas
+            (entry_of next)) }
     {
         let hidden = on_canvas(self.alloc, &self.areas, &canvas(shot.scene()))?;
         let owed = owed(
@@ -92,9 +94,15 @@ impl Canvas {
         requires ended { runs self.old.frames.newest ≡ false }
         requires drawn { IsDrawn next }
         requires running { next.end ≡ Running }
-        ensures started { result ≡ record { n = next.number; tiles = tiles_along next.shot.scene.h * tiles_along next.shot.scene.w } }
+        ensures started { result ≡ record {
+          n = next.number;
+          tiles = tiles_along next.shot.scene.h * tiles_along next.shot.scene.w;
+        } }
         ensures own { HaveOwnIds (entry_of next).capture.looks }
-        ensures stands { self.new ≡ record self.old { frames = record self.old.frames { given = []; newest = Some (latest_of next) } } }
+        ensures stands { self.new ≡ record self.old {
+          frames =
+              record self.old.frames { given = []; newest = Some (latest_of next) };
+        } }
     {
         let started = Started {
             n: next.number,
@@ -111,7 +119,8 @@ impl Canvas {
 
 // The pixels of one region that the other has not.
 fn without(one: &Region, other: &Region) -> Result<Region, NoMemory>
-    ensures { IfOk result (IsBandsOf (λ x y. has_pixel one.now x y && not (has_pixel other.now x y))) }
+    ensures { IfOk result (IsBandsOf (λ x y.
+        has_pixel one.now x y && not (has_pixel other.now x y))) }
 {
     let mut rest = one.copied()?;
     rest.cut(other)?;
