@@ -43,32 +43,18 @@ told_end name end = told_event (event_of name (fault_of end)) ∷ []
 -- what is told of a fault of bytes is no failure of the store
 image_counts_none : (name : List ℕ) (fault : BadImage) → store_failures (PreloadFailed name (image_fault fault) ∷ []) ≡ 0
 image_counts_none name image.Magic = refl
-image_counts_none name image.Kind = refl
-image_counts_none name (image.Size at) = refl
-image_counts_none name (image.Short at) = refl
-image_counts_none name (image.Long at) = refl
-image_counts_none name (image.Premul at) = refl
-image_counts_none name image.NoMemory = refl
+image_counts_none name other = refl
 
 font_counts_none : (name : List ℕ) (fault : BadFont) → store_failures (PreloadFailed name (font_fault fault) ∷ []) ≡ 0
 font_counts_none name font.Magic = refl
-font_counts_none name font.Height = refl
-font_counts_none name (font.Width glyph) = refl
-font_counts_none name (font.Short at) = refl
-font_counts_none name (font.Long at) = refl
-font_counts_none name (font.Bits glyph) = refl
-font_counts_none name font.NoMemory = refl
+font_counts_none name other = refl
 
 -- where an end tells that the store failed, it did
 fails_once : (name : List ℕ) (end : LoadEnd) (before now : ℕ) → before ≤ now → HasCounts before now end → RoseBy (store_failures (told_end name end)) before now
-fails_once name (ended.Done image) before now later counts = rose_by_none before now later
-fails_once name (ended.Font font) before now later counts = rose_by_none before now later
-fails_once name ended.Missing before now later counts = rose_by_none before now later
-fails_once name ended.TooLarge before now later counts = rose_by_none before now later
 fails_once name (ended.BadImage fault) before now later counts = subst (λ k. RoseBy k before now) (sym (image_counts_none name fault)) (rose_by_none before now later)
 fails_once name (ended.BadFont fault) before now later counts = subst (λ k. RoseBy k before now) (sym (font_counts_none name fault)) (rose_by_none before now later)
 fails_once name (ended.Failed first last) before now later counts = counts.2
-fails_once name ended.NoMemory before now later counts = rose_by_none before now later
+fails_once name other before now later counts = rose_by_none before now later
 
 -- no end of a load tells of a lost frame
 loses_none : (name : List ℕ) (fault : Option LoadFault) → lost_frames (told_event (event_of name fault) ∷ []) ≡ 0
@@ -83,12 +69,7 @@ counted before now came end (inr is) counts = subst (λ e. HasCounts before now 
 counted_so : (before now : ℕ) (came end : LoadEnd) → EndsSo came end → HasCounts before now came → HasCounts before now end
 counted_so before now (ended.Done image) end is counts = counted before now (ended.Done image) end is counts
 counted_so before now (ended.Font font) end is counts = counted before now (ended.Font font) end is counts
-counted_so before now ended.Missing end is counts = counted before now ended.Missing end (inl is) counts
-counted_so before now ended.TooLarge end is counts = counted before now ended.TooLarge end (inl is) counts
-counted_so before now (ended.BadImage fault) end is counts = counted before now (ended.BadImage fault) end (inl is) counts
-counted_so before now (ended.BadFont fault) end is counts = counted before now (ended.BadFont fault) end (inl is) counts
-counted_so before now (ended.Failed first last) end is counts = counted before now (ended.Failed first last) end (inl is) counts
-counted_so before now ended.NoMemory end is counts = counted before now ended.NoMemory end (inl is) counts
+counted_so before now other end is counts = counted before now other end (inl is) counts
 
 -- a load that was refused
 pub load_refused : (d : Devices) (name : List ℕ) (cause : Refusal) (old new : Canvas) → MayPreload (now_of old) name (Err cause) (now_of new) → new ≡ record old { loads = new.loads } → Acts (line.Command (command.Load name)) d d old new (outcome.Refused cause)

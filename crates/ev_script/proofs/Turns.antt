@@ -1,5 +1,5 @@
 -- Turns of the machine, from what was done on a canvas.
-use Rattle.std.proofs.Common.{◌≡◌, ℕ, arith, ℤ, Bool, true, false, cond, List, [], ◌∷◌, ◌++◌, map, Option, Some, None, Result, Ok, Err, refl, ap, subst, sym, ◌∙◌}
+use Rattle.std.proofs.Common.{◌≡◌, ◌⊎◌, inl, inr, ℕ, arith, ℤ, Bool, true, false, cond, List, [], ◌∷◌, ◌++◌, map, Option, Some, None, Result, Ok, Err, refl, ap, subst, sym, ◌∙◌}
 use Rattle.std.proofs.lemmas.List.{append-nil}
 use Rattle.ev_geom.specs.Area.{Area}
 use Rattle.ev_port.specs.Told.{grows_by_none}
@@ -175,35 +175,20 @@ picture_acts d canvas said print asked step tells none no_failures = quiet_acts 
         by true = busy
         by false = none latest.entry
 
--- none of the commands that are carried out
-pub record IsUnbuilt (said : Command) : Type 0 where
-  pub edit : (edit : Edit) → said ≡ command.Edit edit → ⊥
-  pub damage : (x y w h : ℤ) → said ≡ command.Damage x y w h → ⊥
-  pub hide_area : (x y w h : ℤ) → said ≡ command.HideArea x y w h → ⊥
-  pub clear_areas : said ≡ command.ClearAreas → ⊥
-  pub load : (name : List ℕ) → said ≡ command.Load name → ⊥
-  pub render : said ≡ command.Render → ⊥
-  pub dump : said ≡ command.Dump → ⊥
-  pub sum : said ≡ command.Sum → ⊥
+-- one of the commands that aren't built yet
+abbrev pub IsUnbuilt : Command → Type 0
+IsUnbuilt said = ((name : List ℕ) × (said ≡ command.Preload name)) ⊎ (((name : List ℕ) × (said ≡ command.Cancel name)) ⊎ ((said ≡ command.Serve) ⊎ ((said ≡ command.Start)
+    ⊎ (((k : ℤ) × (said ≡ command.Step k)) ⊎ ((said ≡ command.Poll) ⊎ ((said ≡ command.Wait) ⊎ (said ≡ command.Stats)))))))
 
--- a command that isn't built yet
 pub unbuilt_acts : (d : Devices) (canvas : Canvas) (said : Command) → IsUnbuilt said → Acts (line.Command said) d d canvas canvas (outcome.Bad bad.Word)
-unbuilt_acts d canvas said unbuilt_so = quiet_acts (line.Command said) d canvas canvas (outcome.Bad bad.Word) (keeps_all canvas) (λ n older. is_bad (setting canvas.setup d.files) n older said unbuilt_so) (λ n. refl) (λ n. refl)
+unbuilt_acts d canvas said unbuilt_so = quiet_acts (line.Command said) d canvas canvas (outcome.Bad bad.Word) (keeps_all canvas) (λ n older. is_bad (setting canvas.setup d.files) n older unbuilt_so) (λ n. refl) (λ n. refl)
   where
-    is_bad : (settled : Setting) (n : ℕ) (older : List Latest) (said : Command) → IsUnbuilt said → Step settled (state_of canvas older) n (line.Command said) (stays (state_of canvas older) (unbuilt n))
-    is_bad settled n older (command.Edit edit) none = absurd (none.edit edit refl)
-    is_bad settled n older (command.Damage x y w h) none = absurd (none.damage x y w h refl)
-    is_bad settled n older (command.HideArea x y w h) none = absurd (none.hide_area x y w h refl)
-    is_bad settled n older command.ClearAreas none = absurd (none.clear_areas refl)
-    is_bad settled n older (command.Preload name) none = refl
-    is_bad settled n older (command.Load name) none = absurd (none.load name refl)
-    is_bad settled n older (command.Cancel name) none = refl
-    is_bad settled n older command.Serve none = refl
-    is_bad settled n older command.Start none = refl
-    is_bad settled n older (command.Step k) none = refl
-    is_bad settled n older command.Poll none = refl
-    is_bad settled n older command.Wait none = refl
-    is_bad settled n older command.Render none = absurd (none.render refl)
-    is_bad settled n older command.Dump none = absurd (none.dump refl)
-    is_bad settled n older command.Sum none = absurd (none.sum refl)
-    is_bad settled n older command.Stats none = refl
+    is_bad : (settled : Setting) (n : ℕ) (older : List Latest) → IsUnbuilt said → Step settled (state_of canvas older) n (line.Command said) (stays (state_of canvas older) (unbuilt n))
+    is_bad settled n older (inl (name, is)) = rw is refl
+    is_bad settled n older (inr (inl (name, is))) = rw is refl
+    is_bad settled n older (inr (inr (inl is))) = rw is refl
+    is_bad settled n older (inr (inr (inr (inl is)))) = rw is refl
+    is_bad settled n older (inr (inr (inr (inr (inl (k, is)))))) = rw is refl
+    is_bad settled n older (inr (inr (inr (inr (inr (inl is)))))) = rw is refl
+    is_bad settled n older (inr (inr (inr (inr (inr (inr (inl is))))))) = rw is refl
+    is_bad settled n older (inr (inr (inr (inr (inr (inr (inr is))))))) = rw is refl

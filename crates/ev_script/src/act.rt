@@ -31,8 +31,10 @@ pub(crate) fn act<T: Store, P: Screen>(
     requires within { IsLine line.now }
     requires ready { IsReady canvas.old (2 ^ 40) }
     ensures { Acts line.now
-        (devices (P.shown screen.old) (P.faults screen.old) (T.files store.old) (T.faults store.old))
-        (devices (P.shown screen.new) (P.faults screen.new) (T.files store.new) (T.faults store.new))
+        (devices (P.shown screen.old) (P.faults screen.old) (T.files store.old)
+        (T.faults store.old))
+        (devices (P.shown screen.new) (P.faults screen.new) (T.files store.new)
+        (T.faults store.new))
         canvas.old canvas.new result }
 {
     match line {
@@ -53,8 +55,10 @@ fn obey<T: Store, P: Screen>(
     requires within { IsCommand command.now }
     requires ready { IsReady canvas.old (2 ^ 40) }
     ensures { Acts (line.Command command.now)
-        (devices (P.shown screen.old) (P.faults screen.old) (T.files store.old) (T.faults store.old))
-        (devices (P.shown screen.new) (P.faults screen.new) (T.files store.new) (T.faults store.new))
+        (devices (P.shown screen.old) (P.faults screen.old) (T.files store.old)
+        (T.faults store.old))
+        (devices (P.shown screen.new) (P.faults screen.new) (T.files store.new)
+        (T.faults store.new))
         canvas.old canvas.new result }
 {
     match command {
@@ -69,7 +73,14 @@ fn obey<T: Store, P: Screen>(
         Command::Render => render(canvas, screen),
         Command::Dump => of_picture(canvas, Outcome::Rows),
         Command::Sum => of_picture(canvas, Outcome::Totals),
-        _ => Outcome::Bad(BadLine::Word),
+        Command::Preload(_)
+        | Command::Cancel(_)
+        | Command::Serve
+        | Command::Start
+        | Command::Step { .. }
+        | Command::Poll
+        | Command::Wait
+        | Command::Stats => Outcome::Bad(BadLine::Word),
     }
 }
 
@@ -87,9 +98,11 @@ fn of_picture(canvas: &Canvas, asked: Outcome) -> Outcome
 // A load for the object of a name, from its beginning to its end.
 fn load<T: Store>(alloc: Global, canvas: &mut Canvas, name: &Name, store: &mut T) -> Outcome
     requires ready { IsReady canvas.old (2 ^ 40) }
-    ensures { (frames : Option (List Frame)) (faults : ℕ) → Acts (line.Command (command.Load name.now))
+    ensures { (frames : Option (List Frame)) (faults : ℕ)
+        → Acts (line.Command (command.Load name.now))
         (devices frames faults (T.files store.old) (T.faults store.old))
-        (devices frames faults (T.files store.new) (T.faults store.new)) canvas.old canvas.new result }
+        (devices frames faults (T.files store.new) (T.faults store.new))
+        canvas.old canvas.new result }
 {
     let job = match canvas.preload(name) {
         Ok(job) => job,
@@ -109,7 +122,8 @@ fn render<P: Screen>(canvas: &mut Canvas, screen: &mut P) -> Outcome
     requires ready { IsReady canvas.old (2 ^ 40) }
     ensures { (files : Option (List StoredFile)) (faults : ℕ) → Acts (line.Command command.Render)
         (devices (P.shown screen.old) (P.faults screen.old) files faults)
-        (devices (P.shown screen.new) (P.faults screen.new) files faults) canvas.old canvas.new result }
+        (devices (P.shown screen.new) (P.faults screen.new) files faults)
+        canvas.old canvas.new result }
 {
     match canvas.start() {
         Ok(_) => {

@@ -47,24 +47,32 @@ pub fn run_alone<S: Source, K: Sink, T: Store, P: Screen>(
     ensures played { result ≡ Status.Ok → OfScript
         (IsPlayed (setting (setup_of (options_of (texts words.now))) (T.files store.old)))
         (S.left source.old) (S.left source.new)
-        (outside (K.written sink.old) (P.shown screen.old) (P.faults screen.old) (T.faults store.old))
-        (outside (K.written sink.new) (P.shown screen.new) (P.faults screen.new) (T.faults store.new)) }
+        (outside (K.written sink.old) (P.shown screen.old) (P.faults screen.old)
+        (T.faults store.old))
+        (outside (K.written sink.new) (P.shown screen.new) (P.faults screen.new)
+        (T.faults store.new)) }
     ensures stopped { result ≡ Status.WriteFault → OfScript
         (IsStopped (setting (setup_of (options_of (texts words.now))) (T.files store.old)))
         (S.left source.old) (S.left source.new)
-        (outside (K.written sink.old) (P.shown screen.old) (P.faults screen.old) (T.faults store.old))
-        (outside (K.written sink.new) (P.shown screen.new) (P.faults screen.new) (T.faults store.new)) }
+        (outside (K.written sink.old) (P.shown screen.old) (P.faults screen.old)
+        (T.faults store.old))
+        (outside (K.written sink.new) (P.shown screen.new) (P.faults screen.new)
+        (T.faults store.new)) }
     ensures in_order { ShowsInOrder (P.shown screen.old) (P.shown screen.new) }
     ensures usage { is_usage result ≡ not (are_pairs (texts words.now)) }
-    ensures read_fault { result ≡ Status.ReadFault → Rose (S.faults source.old) (S.faults source.new) }
-    ensures write_fault { result ≡ Status.WriteFault → Rose (K.faults sink.old) (K.faults sink.new) }
+    ensures read_fault { result ≡ Status.ReadFault
+        → Rose (S.faults source.old) (S.faults source.new) }
+    ensures write_fault { result ≡ Status.WriteFault
+        → Rose (K.faults sink.old) (K.faults sink.new) }
     ensures too_long { Takes (S.taken source.old) (S.taken source.new) (is_too_long result) }
     ensures unread { result ≡ Status.Usage → source.new ≡ source.old }
     ensures unwritten { is_before_lines result ≡ true → sink.new ≡ sink.old }
     ensures unshown { is_before_lines result ≡ true → screen.new ≡ screen.old }
     ensures unfetched { is_before_lines result ≡ true → store.new ≡ store.old }
-    ensures complete { are_pairs (texts words.now) ≡ true → ¬ Rose (S.faults source.old) (S.faults source.new)
-        → ¬ Rose (K.faults sink.old) (K.faults sink.new) → is_too_long result ≡ false → IsFine result }
+    ensures complete { are_pairs (texts words.now) ≡ true
+        → ¬ Rose (S.faults source.old) (S.faults source.new)
+        → ¬ Rose (K.faults sink.old) (K.faults sink.new) → is_too_long result ≡ false
+        → IsFine result }
 {
     if !are_pairs(words) {
         return Status::Usage;
@@ -94,17 +102,22 @@ fn play_on_new<K: Sink, T: Store, P: Screen>(
     requires short { length script.now ≤ 16777216 }
     ensures played { result ≡ Status.Ok → IsPlayed
         (setting (setup_of options) (T.files store.old)) script.now
-        (outside (K.written sink.old) (P.shown screen.old) (P.faults screen.old) (T.faults store.old))
-        (outside (K.written sink.new) (P.shown screen.new) (P.faults screen.new) (T.faults store.new)) }
+        (outside (K.written sink.old) (P.shown screen.old) (P.faults screen.old)
+        (T.faults store.old))
+        (outside (K.written sink.new) (P.shown screen.new) (P.faults screen.new)
+        (T.faults store.new)) }
     ensures stopped { result ≡ Status.WriteFault → IsStopped
         (setting (setup_of options) (T.files store.old)) script.now
-        (outside (K.written sink.old) (P.shown screen.old) (P.faults screen.old) (T.faults store.old))
-        (outside (K.written sink.new) (P.shown screen.new) (P.faults screen.new) (T.faults store.new)) }
+        (outside (K.written sink.old) (P.shown screen.old) (P.faults screen.old)
+        (T.faults store.old))
+        (outside (K.written sink.new) (P.shown screen.new) (P.faults screen.new)
+        (T.faults store.new)) }
     ensures in_order { ShowsInOrder (P.shown screen.old) (P.shown screen.new) }
     ensures usage { is_usage result ≡ false }
     ensures too_long { is_too_long result ≡ false }
     ensures read_fault { ¬ (result ≡ Status.ReadFault) }
-    ensures write_fault { result ≡ Status.WriteFault → Rose (K.faults sink.old) (K.faults sink.new) }
+    ensures write_fault { result ≡ Status.WriteFault
+        → Rose (K.faults sink.old) (K.faults sink.new) }
     ensures unwritten { is_before_lines result ≡ true → sink.new ≡ sink.old }
     ensures unshown { is_before_lines result ≡ true → screen.new ≡ screen.old }
     ensures unfetched { is_before_lines result ≡ true → store.new ≡ store.old }

@@ -21,9 +21,11 @@ pub const ROW: usize = MAX_SIDE as usize;
 pub fn write_rows<K: Sink>(sink: &mut K, picture: &Picture, hidden: &Region) -> Result<(), Failed>
     requires { IsWhole picture.now }
     ensures ok { OnOk result (GrowsBy (K.written sink.old) (K.written sink.new)
-        (text (map (λ y. DumpRow (place_row hidden.now picture.now y)) (range_with_len 0 picture.now.h)))) }
+        (text (map (λ y. DumpRow (place_row hidden.now picture.now y))
+        (range_with_len 0 picture.now.h)))) }
     ensures err { OnErr result (GrowsPart (K.written sink.old) (K.written sink.new)
-        (text (map (λ y. DumpRow (place_row hidden.now picture.now y)) (range_with_len 0 picture.now.h)))) }
+        (text (map (λ y. DumpRow (place_row hidden.now picture.now y))
+        (range_with_len 0 picture.now.h)))) }
     ensures cause { HasCause (K.faults sink.old) (K.faults sink.new) result }
 {
     let mut shown = [None; ROW];
@@ -74,8 +76,10 @@ fn unhidden(hidden: &Region, x: u32, y: u32, pixel: Pixel) -> Option<Pixel>
 }
 
 fn write_row<K: Sink>(sink: &mut K, pixels: &[Option<Pixel>]) -> Result<(), Failed>
-    ensures ok { OnOk result (GrowsBy (K.written sink.old) (K.written sink.new) (reply_text (DumpRow pixels.now))) }
-    ensures err { OnErr result (GrowsPart (K.written sink.old) (K.written sink.new) (reply_text (DumpRow pixels.now))) }
+    ensures ok { OnOk result (GrowsBy (K.written sink.old) (K.written sink.new)
+        (reply_text (DumpRow pixels.now))) }
+    ensures err { OnErr result (GrowsPart (K.written sink.old) (K.written sink.new)
+        (reply_text (DumpRow pixels.now))) }
     ensures cause { HasCause (K.faults sink.old) (K.faults sink.new) result }
 {
     write_reply(sink, &Reply::DumpRow { pixels })

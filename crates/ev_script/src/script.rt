@@ -38,17 +38,22 @@ pub fn play_alone<K: Sink, T: Store, P: Screen>(
     requires short { length script.now ≤ 16777216 }
     ensures played { result ≡ Played.Ok → IsPlayedOn canvas.new
         (setting canvas.old.setup (T.files store.old)) script.now
-        (outside (K.written sink.old) (P.shown screen.old) (P.faults screen.old) (T.faults store.old))
-        (outside (K.written sink.new) (P.shown screen.new) (P.faults screen.new) (T.faults store.new)) }
+        (outside (K.written sink.old) (P.shown screen.old) (P.faults screen.old)
+        (T.faults store.old))
+        (outside (K.written sink.new) (P.shown screen.new) (P.faults screen.new)
+        (T.faults store.new)) }
     ensures stopped { result ≡ Played.WriteFault → IsStopped
         (setting canvas.old.setup (T.files store.old)) script.now
-        (outside (K.written sink.old) (P.shown screen.old) (P.faults screen.old) (T.faults store.old))
-        (outside (K.written sink.new) (P.shown screen.new) (P.faults screen.new) (T.faults store.new)) }
+        (outside (K.written sink.old) (P.shown screen.old) (P.faults screen.old)
+        (T.faults store.old))
+        (outside (K.written sink.new) (P.shown screen.new) (P.faults screen.new)
+        (T.faults store.new)) }
     ensures setup { canvas.new.setup ≡ canvas.old.setup }
     ensures files { T.files store.new ≡ T.files store.old }
     ensures taken { canvas.new.events ≡ [] }
     ensures in_order { ShowsInOrder (P.shown screen.old) (P.shown screen.new) }
-    ensures write_fault { result ≡ Played.WriteFault → Rose (K.faults sink.old) (K.faults sink.new) }
+    ensures write_fault { result ≡ Played.WriteFault
+        → Rose (K.faults sink.old) (K.faults sink.new) }
 {
     let mut rest = script;
     let mut number = 1;

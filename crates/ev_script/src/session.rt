@@ -27,8 +27,10 @@ pub fn carry_out<K: Sink, T: Store, P: Screen>(
     requires ready { IsReady canvas.old number }
     requires few { number < 2 ^ 40 }
     ensures carries { CarriesOut number line.now (K.written sink.old) (K.written sink.new)
-        (devices (P.shown screen.old) (P.faults screen.old) (T.files store.old) (T.faults store.old))
-        (devices (P.shown screen.new) (P.faults screen.new) (T.files store.new) (T.faults store.new))
+        (devices (P.shown screen.old) (P.faults screen.old) (T.files store.old)
+        (T.faults store.old))
+        (devices (P.shown screen.new) (P.faults screen.new) (T.files store.new)
+        (T.faults store.new))
         canvas.old canvas.new result }
     ensures cause { HasCause (K.faults sink.old) (K.faults sink.new) result }
 {

@@ -38,10 +38,12 @@ impl From<AllocError> for ReadError {
 
 /// Reads a source to its end, in large pieces.
 pub fn read_script<S: Source>(alloc: Global, source: &mut S) -> Result<Vec<u8>, ReadError>
-    ensures read { IfOk result (λ script. IsRead (S.left source.old) (S.left source.new) script.items) }
+    ensures read { IfOk result (λ script. IsRead (S.left source.old) (S.left source.new)
+        script.items) }
     ensures short { IfOk result (λ script. length script.items ≤ 2 ^ 24) }
     ensures takes { Takes (S.taken source.old) (S.taken source.new) (is_long result) }
-    ensures cause { IsErrOf result ReadError.Failed → Rose (S.faults source.old) (S.faults source.new) }
+    ensures cause { IsErrOf result ReadError.Failed
+        → Rose (S.faults source.old) (S.faults source.new) }
 {
     let mut script = Vec::new(alloc);
     let mut piece = [0; PIECE];

@@ -29,9 +29,17 @@ impl Model for Totals {
 
     ghost Value = { Counts };
 
-    ghost view = { λ t. record { count = t.count; a = t.a; r = t.r; g = t.g; b = t.b; weighted = t.weighted } };
+    ghost view = { λ t. record {
+      count = t.count;
+      a = t.a;
+      r = t.r;
+      g = t.g;
+      b = t.b;
+      weighted = t.weighted;
+    } };
 
-    ghost invariant = { λ t. IsSmall (record { count = t.count; a = t.a; r = t.r; g = t.g; b = t.b; weighted = t.weighted }) };
+    ghost invariant = { λ t. IsSmall (record
+        { count = t.count; a = t.a; r = t.r; g = t.g; b = t.b; weighted = t.weighted }) };
 }
 
 impl Totals {

@@ -53,7 +53,8 @@ impl From<AllocError> for BadWords {
 /// where the words aren't pairs of an option and a value that it takes, each option at most once
 /// (docs/SCRIPT.md, Words). It takes no memory.
 pub fn read_words(words: &[&str]) -> Result<Options, BadWords>
-    ensures { result ≡ (if are_pairs (texts words.now) then Ok (options_of (texts words.now)) else Err BadWords.Usage) }
+    ensures { result ≡ (if are_pairs (texts words.now)
+        then Ok (options_of (texts words.now)) else Err BadWords.Usage) }
 {
     if !are_pairs(words) {
         return Err(BadWords::Usage);
@@ -80,8 +81,10 @@ pub(crate) fn options_of(words: &[&str]) -> Options
 /// `read_words` answers it. `NoMemory`: there was no room for their names.
 pub fn read_folders(alloc: Global, words: &[&str]) -> Result<Folders, BadWords>
     ensures usage { IsErrOf result BadWords.Usage ↔ are_pairs (texts words.now) ≡ false }
-    ensures store { IfOk result (λ folders. option_map string_bytes folders.store ≡ value_of (codes "--store") (texts words.now)) }
-    ensures frames { IfOk result (λ folders. option_map string_bytes folders.frames ≡ value_of (codes "--frames") (texts words.now)) }
+    ensures store { IfOk result (λ folders. option_map string_bytes folders.store
+        ≡ value_of (codes "--store") (texts words.now)) }
+    ensures frames { IfOk result (λ folders. option_map string_bytes folders.frames
+        ≡ value_of (codes "--frames") (texts words.now)) }
 {
     if !are_pairs(words) {
         return Err(BadWords::Usage);
@@ -93,7 +96,8 @@ pub fn read_folders(alloc: Global, words: &[&str]) -> Result<Folders, BadWords>
 }
 
 fn owned(alloc: Global, text: Option<&str>) -> Result<Option<String>, AllocError>
-    ensures { IfOk result (λ owned. option_map string_bytes owned ≡ option_map (λ words. words.now) text.entry) }
+    ensures { IfOk result (λ owned. option_map string_bytes owned
+        ≡ option_map (λ words. words.now) text.entry) }
 {
     match text {
         Some(text) => Ok(Some(text.to_string(alloc)?)),

@@ -9,7 +9,7 @@ use Rattle.ev_canvas.specs.Machine.{rows, sums, stays, place_row}
 use Rattle.ev_script.specs.Session.{state_of}
 use Rattle.ev_script.specs.declared.outcome.Outcome.TheVariants as outcome
 use Rattle.ev_script.proofs.Painting.{rows_lose_none, rows_fail_none}
-use Rattle.ev_script.proofs.Turns.{edit_acts, damage_acts, hide_acts, clear_acts, picture_acts, unbuilt_acts, IsUnbuilt}
+use Rattle.ev_script.proofs.Turns.{edit_acts, damage_acts, hide_acts, clear_acts, picture_acts, unbuilt_acts}
 use Rattle.ev_script.proofs.act.obey.Goals as goal
 
 pub returns-in-Edit : goal.returns-in-Edit
@@ -48,7 +48,5 @@ returns-in-HideArea g c =
     let area = ap limited (same_area _ _ (to_z-of_z w64 _ x) (to_z-of_z w64 _ y) (to_z-of_z w64 _ w) (to_z-of_z w64 _ h)) in
     rw (c.in-HideArea.is, c.of_change-in-HideArea.ensures) (hide_acts _ c.in-HideArea.x c.in-HideArea.y c.in-HideArea.w c.in-HideArea.h c.args.canvas.now c.hide_area.new.self c.hide_area.result _ area c.hide_area.ensures.hides c.hide_area.ensures.alone)
 
-pub returns-in_default : goal.returns-in_default
-returns-in_default g c =
-    let unbuilt : IsUnbuilt c.args.command.now = record { edit = c.in_default.not-Edit; damage = c.in_default.not-Damage; hide_area = c.in_default.not-HideArea; clear_areas = c.in_default.not-ClearAreas; load = c.in_default.not-Load; render = c.in_default.not-Render; dump = c.in_default.not-Dump; sum = c.in_default.not-Sum } in
-    unbuilt_acts _ c.args.canvas.now c.args.command.now unbuilt
+pub returns-in-Preload : goal.returns-in-Preload
+returns-in-Preload g c = unbuilt_acts _ c.args.canvas.now c.args.command.now c.in-Preload.is
