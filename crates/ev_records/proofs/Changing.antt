@@ -1,5 +1,5 @@
 -- Cells that change, and what they stand for.
-use Rattle.std.proofs.Common.{◌≡◌, ◌≢◌, ℕ, zero, suc, ◌<◌, ◌≤◌, ◌+◌, ◌⊎◌, ⊎_elim, inl, inr, Bool, true, false, ◌==◌, if◌then◌else◌, All, IfSome, is_some, List, [], ◌∷◌, ◌++◌, map, get_or, set, length, drop, Option, Some, None, refl, sym, ap, ap₂, ◌∙◌, arith, true≢false, subst, get_or-set_other, get_or-set_same}
+use Rattle.std.proofs.Common.{◌≡◌, ◌≢◌, ℕ, zero, suc, ◌<◌, ◌≤◌, ◌+◌, ◌⊎◌, ⊎_elim, inl, inr, Bool, true, false, ◌==◌, if◌then◌else◌, All, IfSome, is_some, List, [], ◌∷◌, ◌++◌, get_or, set, length, drop, Option, Some, None, refl, sym, ap, ap₂, ◌∙◌, arith, true≢false, subst, get_or-set_other, get_or-set_same}
 use Rattle.std.proofs.lemmas.Bool.{eqb-true, eq-eqb}
 use Rattle.std.proofs.lemmas.Grind.{common_steps}
 use Rattle.std.proofs.lemmas.Int.{ints}
@@ -11,10 +11,10 @@ use Rattle.ev_model.specs.Look.{Look, look_of}
 use Rattle.ev_model.specs.declared.scene.Record.{Record}
 use Rattle.ev_damage.specs.Marked.{is_marked}
 use Rattle.ev_damage.proofs.Members.{or_left, or_right}
-use Rattle.ev_records.specs.Showing.{Showing, nothing, showing, put, settled, Shows, HavePlaces, IsNewElsewhere, IsOnCanvas}
+use Rattle.ev_records.specs.Showing.{Showing, nothing, showing, put, Shows, HavePlaces, IsNewElsewhere, IsOnCanvas}
 use Rattle.ev_records.specs.Changes.{is_same, changed, changed_in, changes}
 use Rattle.ev_records.specs.Turned.{still, still_area}
-use Rattle.ev_records.specs.Cells.{look_in, MayStand, no_former, former_at, or_kept, before_of, showing_of, shown, places_of, AreTied, AreCells, empty_cell, present_at, settled_cell, AreSettled}
+use Rattle.ev_records.specs.Cells.{look_in, MayStand, no_former, former_at, or_kept, before_of, showing_of, shown, places_of, AreTied, AreCells, empty_cell, present_at}
 use Rattle.ev_records.specs.declared.cell.Cell.{Cell}
 use Rattle.ev_records.specs.declared.cell.Former.{Former}
 use Rattle.ev_records.proofs.Lining.{Keeps, same_self}

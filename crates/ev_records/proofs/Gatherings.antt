@@ -4,7 +4,6 @@ use Rattle.std.proofs.Math.Bool.{or-false}
 use Rattle.std.proofs.lemmas.List.{take_more}
 use Rattle.std.proofs.lemmas.List.Folds.{list_any-append}
 use Rattle.std.proofs.lemmas.List.Elements.{All-append}
-use Rattle.std.specs.List.{list_any}
 use Rattle.ev_geom.specs.Area.{Area, holds, meet}
 use Rattle.ev_geom.specs.Bands.{has_pixel, FitsRegion}
 use Rattle.ev_damage.proofs.Adding.{adds_nothing}

@@ -1,3 +1,4 @@
+pub mod Following
 pub mod Lining
 pub mod Turnings
 pub mod Changing

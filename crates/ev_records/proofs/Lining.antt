@@ -1,12 +1,12 @@
 -- What the looks of places keep, and which of them are gone.
-use Rattle.std.proofs.Common.{◌≡◌, ◌≢◌, ℕ, ◌⊎◌, ⊎_elim, inl, inr, ℤ, Bool, true, false, not, ◌&&◌, ◌||◌, ◌==◌, List, [], ◌∷◌, ◌++◌, filter_map, Option, Some, None, refl, sym, ap, ap₂, ◌∙◌, true≢false, if◌then◌else◌}
+use Rattle.std.proofs.Common.{◌≡◌, ◌≢◌, ℕ, ◌⊎◌, ⊎_elim, inl, inr, ℤ, Bool, true, false, not, ◌&&◌, ◌||◌, ◌==◌, List, [], ◌∷◌, filter_map, Option, Some, None, refl, sym, ap, ap₂, ◌∙◌, true≢false, if◌then◌else◌}
 use Rattle.std.proofs.Math.Bool.{or-false}
 use Rattle.std.proofs.lemmas.Bool.{eqb-true, eq-eqb, ne_eqb, and_right}
 use Rattle.std.proofs.lemmas.List.Folds.{list_any-append}
 use Rattle.std.specs.List.{list_any, cons_option}
 use Rattle.ev_geom.specs.Area.{Area, holds}
 use Rattle.ev_geom.specs.Bands.{has_pixel}
-use Rattle.ev_model.specs.Look.{Look, figure}
+use Rattle.ev_model.specs.Look.{Look}
 use Rattle.ev_damage.specs.Same.{same_look}
 use Rattle.ev_damage.specs.Marked.{is_marked}
 use Rattle.ev_damage.specs.Damage.{is_kept, in_unkept, in_order}

@@ -1,5 +1,5 @@
 -- What packed areas tell of places that have a pixel in common.
-use Rattle.std.proofs.Common.{◌≡◌, ◌≢◌, ℕ, zero, suc, ◌<◌, ◌≤◌, ◌+◌, ◌⊎◌, ⊎_elim, inl, inr, ℤ, pos, negsuc, ◌+ℤ◌, ◌≤ℤ◌, ◌<ℤ◌, int_le, int_lt, Bool, true, false, ◌&&◌, ◌||◌, ◌==◌, nat_le, nat_lt, if◌then◌else◌, List, [], ◌∷◌, ◌++◌, map, get_or, set, length, take, drop, take-append-drop, Option, Some, None, refl, sym, ap, ap₂, ◌∙◌, arith, true≢false, subst, get_or-set_other, get_or-set_same}
+use Rattle.std.proofs.Common.{◌≡◌, ℕ, zero, suc, ◌<◌, ◌≤◌, ◌+◌, ◌⊎◌, ⊎_elim, inl, inr, ℤ, pos, negsuc, ◌+ℤ◌, ◌≤ℤ◌, ◌<ℤ◌, int_le, int_lt, Bool, true, false, ◌&&◌, ◌||◌, ◌==◌, nat_le, nat_lt, if◌then◌else◌, List, [], ◌∷◌, ◌++◌, map, get_or, set, length, take, drop, take-append-drop, Option, None, refl, sym, ap, ap₂, ◌∙◌, arith, true≢false, subst, get_or-set_other, get_or-set_same}
 use Rattle.std.proofs.lemmas.Bool.{eqb-true, eq-eqb, and_right, and_parts, lt-ltb, le-leb, leb-true, ltb-true}
 use Rattle.std.proofs.lemmas.Int.{ints}
 use Rattle.std.proofs.lemmas.Grind.{common_steps}
@@ -14,16 +14,13 @@ use Rattle.ev_areas.specs.Meeting.{meeting, place_if}
 use Rattle.ev_areas.specs.declared.edges.Edges.{Edges}
 use Rattle.ev_areas.proofs.Packing.{common_meet}
 use Rattle.ev_model.specs.Look.{Look}
-use Rattle.ev_model.specs.declared.scene.Record.{Record}
 use Rattle.ev_damage.specs.Same.{same_look}
 use Rattle.ev_damage.specs.Marked.{is_marked}
 use Rattle.ev_damage.proofs.Members.{both, either, or_left, or_right, any_In, In_any}
 use Rattle.ev_damage.proofs.Sameness.{same_look_is}
 use Rattle.ev_records.specs.Showing.{Showing, nothing, showing, put, settled, IsOnCanvas, HavePlaces}
-use Rattle.ev_records.specs.Changes.{is_same}
 use Rattle.ev_records.specs.Standing.{Standings}
 use Rattle.ev_records.specs.Turned.{is_turned, still, held_in, in_pair, any_below, in_turned, Gathers}
-use Rattle.ev_geom.specs.Bands.{has_pixel}
 use Rattle.ev_records.specs.Cells.{look_in, present_at, shown, empty_cell}
 use Rattle.ev_records.specs.Near.{AreAround, HaveAreas, FindsNear, AreApart, IsAroundAll}
 use Rattle.ev_records.specs.declared.cell.Cell.{Cell}

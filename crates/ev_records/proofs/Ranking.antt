@@ -1,12 +1,12 @@
 -- Numbers of places that are given and settled.
-use Rattle.std.proofs.Common.{◌≡◌, ◌≢◌, ℕ, zero, suc, ◌<◌, ◌≤◌, ◌+◌, ◌*◌, ◌⊎◌, ⊎_elim, inl, inr, Bool, true, false, ◌==◌, List, [], ◌∷◌, map, get_or, set, length, drop, AllPairs, refl, sym, ap, ap₂, ◌∙◌, arith, true≢false, subst, get_or-set_other, get_or-set_same}
+use Rattle.std.proofs.Common.{◌≡◌, ℕ, suc, ◌<◌, ◌≤◌, ◌+◌, ◌⊎◌, ⊎_elim, inl, inr, Bool, true, false, ◌==◌, List, [], ◌∷◌, get_or, set, length, drop, refl, sym, ap, ap₂, ◌∙◌, arith, true≢false, subst, get_or-set_other, get_or-set_same}
 use Rattle.std.proofs.lemmas.Bool.{eqb-true}
 use Rattle.std.proofs.lemmas.Grind.{common_steps}
 use Rattle.std.proofs.lemmas.List.{map-set, get_or-map, drop_more}
 use Rattle.std.proofs.Math.Seq.{map-set_same}
 use Rattle.ev_damage.specs.Marked.{is_marked}
 use Rattle.ev_damage.proofs.Members.{either}
-use Rattle.ev_records.specs.Standing.{Standings, rank, Rises, Stays}
+use Rattle.ev_records.specs.Standing.{Standings, rank, Stays}
 use Rattle.ev_records.specs.Turned.{is_turned}
 use Rattle.ev_records.specs.Ranks.{stood_in, stands_in, standings, AreRanks, settled_rank, AreSettledRanks, IsNumbered, have_turned}
 use Rattle.ev_records.specs.declared.ranks.Rank.{Rank}

@@ -1,10 +1,10 @@
 -- What is kept of the start before is forgotten.
-use Rattle.std.proofs.Common.{◌≡◌, ◌≢◌, ℕ, zero, suc, ◌<◌, ◌≤◌, ◌+◌, ◌⊎◌, ⊎_elim, inl, inr, List, [], ◌∷◌, map, get_or, set, length, Option, Some, None, refl, sym, ap, ap₂, ◌∙◌, arith, subst, get_or-set_other, get_or-set_same}
+use Rattle.std.proofs.Common.{◌≡◌, ◌≢◌, ℕ, zero, suc, ◌<◌, ◌≤◌, ◌+◌, ⊎_elim, inr, List, [], ◌∷◌, map, get_or, set, length, Option, Some, None, refl, sym, ap, ap₂, ◌∙◌, arith, subst, get_or-set_other, get_or-set_same}
 use Rattle.std.proofs.lemmas.Grind.{common_steps}
 use Rattle.std.proofs.Math.Seq.{map-set_same}
 use Rattle.ev_model.specs.Look.{Look}
 use Rattle.ev_records.specs.Showing.{Showing, showing, settled, Shows, HavePlaces}
-use Rattle.ev_records.specs.Cells.{look_in, former_at, showing_of, shown, AreTied, AreCells, settled_cell, AreSettled}
+use Rattle.ev_records.specs.Cells.{look_in, former_at, shown, AreTied, AreCells, settled_cell, AreSettled}
 use Rattle.ev_records.specs.declared.cell.Cell.{Cell}
 use Rattle.ev_records.specs.declared.cell.Former.{Former}
 use Rattle.ev_records.proofs.Changing.{same_or, less_or, no_mark}

@@ -1,5 +1,5 @@
 -- Looks that stand in opposite orders are those of places whose numbers have turned.
-use Rattle.std.proofs.Common.{◌≡◌, ◌≢◌, ℕ, zero, suc, ◌<◌, ◌≤◌, ◌⊎◌, ⊎_elim, inl, inr, ℤ, Bool, true, false, ◌&&◌, ◌||◌, ◌==◌, nat_lt, List, [], ◌∷◌, filter_map, get_or, length, AllPairs, Option, Some, None, if◌then◌else◌, refl, sym, ap, ap₂, ◌∙◌, arith, true≢false, subst}
+use Rattle.std.proofs.Common.{◌≡◌, ◌≢◌, ℕ, zero, suc, ◌<◌, ◌⊎◌, ⊎_elim, inl, inr, ℤ, Bool, true, false, ◌&&◌, ◌||◌, ◌==◌, nat_lt, List, [], ◌∷◌, filter_map, get_or, length, AllPairs, Option, Some, None, if◌then◌else◌, refl, sym, ap, ap₂, ◌∙◌, arith, true≢false, subst}
 use Rattle.std.proofs.lemmas.Bool.{eqb-true, eq-eqb, lt-ltb, le-ltb, cases_lt}
 use Rattle.std.specs.List.{list_any, cons_option}
 use Rattle.ev_geom.specs.Area.{Area, holds}
@@ -8,7 +8,7 @@ use Rattle.ev_model.specs.Look.{Look}
 use Rattle.ev_damage.specs.Same.{same_look}
 use Rattle.ev_damage.specs.Marked.{is_marked}
 use Rattle.ev_damage.specs.Damage.{is_kept, in_unkept, in_order, is_crossed, in_crossed, is_damaged}
-use Rattle.ev_damage.proofs.Members.{In, Ordered, both, either, or_left, or_right, any_In, In_any, ordered_first, ordered_second}
+use Rattle.ev_damage.proofs.Members.{In, Ordered, both, either, or_left, or_right, any_In, In_any}
 use Rattle.ev_records.specs.Showing.{Showing, showing, looks_now, looks_before, HavePlaces, Have}
 use Rattle.ev_records.specs.Changes.{is_same, changes}
 use Rattle.ev_records.specs.Standing.{Standings, rank, Rises, Stays}

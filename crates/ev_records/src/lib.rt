@@ -3,6 +3,7 @@
 
 mod cell;
 mod changes;
+mod follow;
 mod near;
 mod ranks;
 mod records;

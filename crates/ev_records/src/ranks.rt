@@ -1,7 +1,7 @@
 // The order in which places are painted.
 ghost use Rattle.std.specs.Prelude.{◌≡◌, ◌≢◌, ℕ, true, ◌<◌, ◌++◌, ◌∷◌, [], length, All, AllPairs, OnOk, OnErr, slice_set};
 ghost use Rattle.ev_damage.specs.Marked.{is_marked};
-ghost use Rattle.ev_records.specs.Standing.{Rises, Stays};
+ghost use Rattle.ev_records.specs.Standing.{Rises, Stays, rank};
 ghost use Rattle.ev_records.specs.Turned.{is_turned};
 ghost use Rattle.ev_records.specs.Ranks.{stood_in, stands_in, have_turned, AreRanks, settled_rank, AreSettledRanks, IsNumbered, AreNumbered};
 
@@ -95,6 +95,14 @@ impl Ranks {
         ensures same { length self.new.stands ≡ length self.old.stands }
     {
         number_all(&mut self.ranks, order);
+    }
+
+    // The number of a place.
+    pub(crate) fn rank(&self, place: usize) -> u64
+        requires { place < length self.now.stands }
+        ensures { result ≡ rank self.now.stands place }
+    {
+        self.ranks[place].stands
     }
 
     // The places that may have been given another number since the start before.

@@ -1,5 +1,5 @@
 // What two places owe after a few changes.
-ghost use Rattle.std.specs.Prelude.{◌≡◌, ◌≤◌, ◌<◌, ◌%◌, OnOk, IfOk};
+ghost use Rattle.std.specs.Prelude.{◌≡◌, ◌≢◌, ◌≤◌, ◌<◌, ◌%◌, OnOk, IfOk};
 ghost use Rattle.ev_records.specs.Small.{IsSmall, MayBeSmall, IsBoard};
 
 use crate::{NoMemory, Ranks, Records};
@@ -99,6 +99,16 @@ impl Board {
         self.ranks.place(place, rank)
     }
 
+    // Lets one of the two places be painted above the other.
+    fn raise(&mut self, above: usize, below: usize) -> Result<(), NoMemory>
+        requires board { IsBoard self.old.records self.old.ranks }
+        requires there { (above < 2) × (below < 2) }
+        requires apart { below ≢ above }
+        ensures { OnOk result (IsBoard self.new.records self.new.ranks) }
+    {
+        self.ranks.follow(&[below, above])
+    }
+
     fn settle(&mut self)
         requires board { IsBoard self.old.records self.old.ranks }
         ensures { IsBoard self.new.records self.new.ranks }
@@ -153,7 +163,17 @@ fn restacked_pairs_owe_what_they_share(rt: HostRuntime) -> Result<(), Fail> {
     let mut board = filled(rt.alloc())?;
     board.rank(0, 7)?;
     assert_eq!(rt; board.owes()?, 0);
-    board.rank(0, 12)?;
+    board.rank(0, u64::MAX)?;
     assert_eq!(rt; board.owes()?, 8);
+    Ok(())
+}
+
+#[test]
+fn numbers_follow_the_order(rt: HostRuntime) -> Result<(), Fail> {
+    let mut board = filled(rt.alloc())?;
+    board.raise(0, 1)?;
+    assert_eq!(rt; board.owes()?, 8);
+    board.raise(1, 0)?;
+    assert_eq!(rt; board.owes()?, 0);
     Ok(())
 }

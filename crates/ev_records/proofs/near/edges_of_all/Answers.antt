@@ -1,4 +1,3 @@
-use Rattle.std.proofs.Common.{sym, ◌∙◌}
 use Rattle.ev_records.proofs.Changing.{marked_at}
 use Rattle.ev_records.proofs.Nearing.{around_more}
 use Rattle.ev_records.proofs.near.edges_of_all.Goals as goal

@@ -1,5 +1,4 @@
-use Rattle.std.proofs.Common.{arith, get_or, length, ◌<◌, ◌≡◌, ◌∙◌, sym, ap}
-use Rattle.ev_records.specs.Cells.{former_at, no_former}
+use Rattle.std.proofs.Common.{arith, length, ◌<◌, sym, ap}
 use Rattle.ev_records.proofs.Changing.{kept_inside, is_former}
 use Rattle.ev_records.proofs.Settling.{settling_none, settling_more, all_settled}
 use Rattle.ev_records.proofs.records.settle_all.Goals as goal

@@ -1,4 +1,4 @@
-use Rattle.std.proofs.Common.{◌≡◌, ◌∙◌, ap, All, List, subst, sym}
+use Rattle.std.proofs.Common.{◌∙◌, ap, All, List, subst, sym}
 use Rattle.std.proofs.lemmas.Result.{IfOk-weaker}
 use Rattle.ev_geom.specs.Area.{Area}
 use Rattle.ev_geom.specs.Bands.{FitsRegion, IsBandsOf, has_pixel}

@@ -1,4 +1,4 @@
-use Rattle.std.proofs.Common.{arith, ◌≡◌, ◌∙◌, ap, ap₂, refl, sym, subst, set, List, ◌<◌, ◌++◌, ◌∷◌, [], length, Some, None, ℕ, Option, true, is_some}
+use Rattle.std.proofs.Common.{arith, ◌≡◌, ◌∙◌, ap, ap₂, refl, sym, subst, set, List, ◌<◌, ◌++◌, ◌∷◌, [], length, Some, None, is_some}
 use Rattle.ev_records.specs.Showing.{Showing, put}
 use Rattle.ev_records.specs.Cells.{look_in, shown}
 use Rattle.ev_records.specs.Near.{HaveAreas}

@@ -1,4 +1,4 @@
-use Rattle.std.proofs.Common.{◌≡◌, ◌∙◌, Option, IfSome, ap, sym, subst}
+use Rattle.std.proofs.Common.{◌∙◌, Option, IfSome, ap, sym, subst}
 use Rattle.ev_geom.specs.Area.{Area}
 use Rattle.ev_geom.specs.Bands.{FitsRegion}
 use Rattle.ev_records.specs.Cells.{showing_of, shown}

@@ -1,0 +1,6 @@
+use Rattle.std.proofs.Common.{◌*◌}
+use Rattle.ev_records.proofs.Following.{IsFollowed}
+use Rattle.ev_records.proofs.ranks.Ranks.spread.Given as goal
+
+abbrev pub invariant-loop-i : goal.invariant-loop-i
+invariant-loop-i l = IsFollowed l.self l.initial.self l.order l.i (l.i * l.gap)
