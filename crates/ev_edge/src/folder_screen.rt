@@ -1,5 +1,5 @@
 // A screen that writes each frame to a file of a folder.
-ghost use Rattle.std.specs.Prelude.{◌≡◌, ◌≤◌, [], ◌∷◌, is_err, if◌then◌else◌, IfOk, OnOk, OnErr, None, string_bytes};
+ghost use Rattle.std.specs.Prelude.{◌≡◌, [], ◌∷◌, is_err, if◌then◌else◌, IfOk, OnOk, OnErr, None, string_bytes};
 ghost use Rattle.std.specs.Io.KnownBytes.{Appends};
 ghost use Rattle.ev_argb.specs.Grid.{IsWhole};
 ghost use Rattle.ev_port.specs.Causes.{HasCause};
@@ -52,6 +52,7 @@ impl<R: Files + Drop> FolderScreen<R> {
 
     // Writes the bytes that were laid out last to the file of frame n.
     fn store(&mut self, n: u64) -> Result<(), Failed>
+        ensures folder { self.new.folder ≡ self.old.folder }
         ensures frame { self.new.frame ≡ self.old.frame }
         ensures faults { self.new.faults ≡ self.old.faults }
     {
@@ -73,6 +74,7 @@ impl<R: Files + Drop> Screen for FolderScreen<R> {
         ensures ok { OnOk result (GrowsBy None None (frame_of n _updates.now picture.now ∷ [])) }
         ensures err { OnErr result (GrowsBy {A = Frame} None None []) }
         ensures cause { HasCause self.old.faults self.new.faults result }
+        ensures folder { self.new.folder ≡ self.old.folder }
         ensures laid { self.new.frame ≡ frame_bytes picture.now }
         ensures counted { self.new.faults ≡ (if is_err result then counted self.old.faults 1 else self.old.faults) }
     {

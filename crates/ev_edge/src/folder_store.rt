@@ -68,6 +68,7 @@ impl<R: Files + Drop> Store for FolderStore<R> {
         ensures small { OnOk result (length into.new.items ≤ LARGEST_FILE) }
         ensures kept { OnErr result (into.new.items ≡ []) }
         ensures files { ◌≡◌ {A = Option (List StoredFile)} None None }
+        ensures folder { self.new.folder ≡ self.old.folder }
         ensures cause { HasStoreCause self.old.faults self.new.faults result }
         ensures counted { self.new.faults ≡ (if is_fault result then counted self.old.faults 1 else self.old.faults) }
     {
