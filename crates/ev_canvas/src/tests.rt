@@ -73,17 +73,22 @@ fn is_shown(canvas: &mut Canvas, screen: &mut MemScreen) -> bool
     }
 }
 
-// Starts a frame and flushes it. Gives how many rectangles were updated last before and after the
-// flush, or none where the frame was lost or not started.
-fn frame(canvas: &mut Canvas, screen: &mut MemScreen) -> Option<(usize, usize)> {
-    if !is_started(canvas) {
-        return None;
-    }
-    let before = canvas.updates().len();
-    if !is_shown(canvas, screen) {
-        return None;
-    }
-    Some((before, canvas.updates().len()))
+// Whether the running frame is shown, and updates so many rectangles.
+fn is_shown_with(canvas: &mut Canvas, screen: &mut MemScreen, updates: usize) -> bool
+    requires { runs canvas.old.frames.newest ≡ true }
+{
+    is_shown(canvas, screen) && canvas.updates().len() == updates
+}
+
+// Whether a frame is started and shown, where the frame drawn last updates so many rectangles
+// before the flush, and so many after it.
+fn shows(canvas: &mut Canvas, screen: &mut MemScreen, before: usize, after: usize) -> bool {
+    is_started(canvas) && canvas.updates().len() == before && is_shown_with(canvas, screen, after)
+}
+
+// Whether a frame is started and lost.
+fn loses(canvas: &mut Canvas, screen: &mut MemScreen) -> bool {
+    is_started(canvas) && !is_shown(canvas, screen)
 }
 
 // Hides half of the canvas, and no rectangle with numbers out of their ranges.
@@ -98,91 +103,49 @@ fn give_pixel(canvas: &mut Canvas) -> bool {
     canvas.damage(0, 0, 1, 1) == Ok(())
 }
 
-// The first rectangle that the frame drawn last updates.
-fn first_update(canvas: &Canvas) -> Option<Rect> {
-    canvas.updates().first().copied()
+// Whether the frame drawn last updates the left half first.
+fn has_left_half(canvas: &Canvas) -> bool {
+    canvas.updates().first().copied() == Rect::new(0, 0, 8, 8)
 }
 
-// A frame from which a half is hidden.
-fn half_frame(canvas: &mut Canvas, screen: &mut MemScreen) -> Option<(usize, usize)> {
-    if !hide_half(canvas) {
-        return None;
-    }
-    frame(canvas, screen)
-}
-
-// A frame with nothing hidden, after a pixel was given.
-fn pixel_frame(canvas: &mut Canvas, screen: &mut MemScreen) -> Option<(usize, usize)> {
-    if !give_pixel(canvas) {
-        return None;
-    }
-    frame(canvas, screen)
-}
-
-// What is updated by the first frames, of which the second one is lost.
-type Updates = (
-    Option<(usize, usize)>,
-    Option<(usize, usize)>,
-    Option<(usize, usize)>,
-);
-
-fn first_frames(canvas: &mut Canvas, screen: &mut MemScreen) -> Updates {
-    let half = half_frame(canvas, screen);
-    let lost = pixel_frame(canvas, screen);
-    (half, lost, frame(canvas, screen))
-}
-
-// The first rectangle of the frame drawn last, and what one more frame updates.
-fn next_frame(
-    canvas: &mut Canvas,
-    screen: &mut MemScreen,
-) -> (Option<Rect>, Option<(usize, usize)>) {
-    let first = first_update(canvas);
-    (first, frame(canvas, screen))
-}
-
-// The same on a canvas of its own.
-fn hidden_and_lost(
-    alloc: Global,
-) -> Result<(Updates, (Option<Rect>, Option<(usize, usize)>)), AllocError> {
-    let mut screen = screen(alloc)?;
-    let mut canvas = small(alloc)?;
-    let updates = first_frames(&mut canvas, &mut screen);
-    Ok((updates, next_frame(&mut canvas, &mut screen)))
+// Whether a half that was hidden, and a frame that was lost, are updated by the frames after them.
+fn owes_later(canvas: &mut Canvas, screen: &mut MemScreen) -> bool {
+    hide_half(canvas)
+        && shows(canvas, screen, 0, 2)
+        && give_pixel(canvas)
+        && loses(canvas, screen)
+        && shows(canvas, screen, 1, 1)
+        && has_left_half(canvas)
+        && shows(canvas, screen, 1, 0)
 }
 
 #[test]
 fn what_was_hidden_or_lost_is_owed_later(rt: HostRuntime) -> Result<(), Fail> {
-    let (updates, next) = hidden_and_lost(rt.alloc())?;
-    assert_eq!(rt; updates, (Some((0, 2)), None, Some((1, 1))));
-    assert_eq!(rt; next, (Rect::new(0, 0, 8, 8), Some((1, 0))));
+    let mut screen = screen(rt.alloc())?;
+    let mut canvas = small(rt.alloc())?;
+    assert!(rt; owes_later(&mut canvas, &mut screen));
     Ok(())
 }
 
-// Why there is no picture before the first start and while its frame is running, and what there is
-// to flush then.
-fn first_start(canvas: &mut Canvas) -> (Option<NoPicture>, Option<NoPicture>, Finish) {
-    let before = canvas.picture().err();
-    _ = is_started(canvas);
-    (before, canvas.picture().err(), canvas.finish())
+// Whether the first frame is running, and has neither a picture nor hidden pixels yet.
+fn is_undrawn(canvas: &Canvas) -> bool {
+    canvas.picture().err() == Some(NoPicture::Busy)
+        && canvas.finish() == Finish::Frame { n: 1 }
+        && canvas.hidden().rects().is_empty()
 }
 
-// The same on a canvas of its own.
-fn first_start_seen(
-    alloc: Global,
-) -> Result<(Option<NoPicture>, Option<NoPicture>, Finish), AllocError> {
-    let mut canvas = small(alloc)?;
-    Ok(first_start(&mut canvas))
+// Whether there is no picture before the first start, nor while its frame is running.
+fn is_drawn_at_the_flush(canvas: &mut Canvas) -> bool {
+    canvas.picture().err() == Some(NoPicture::NoFrame)
+        && hide_half(canvas)
+        && is_started(canvas)
+        && is_undrawn(canvas)
 }
 
 #[test]
 fn a_running_frame_has_no_picture_yet(rt: HostRuntime) -> Result<(), Fail> {
-    let seen = first_start_seen(rt.alloc())?;
-    let frame = Finish::Frame { n: 1 };
-    assert_eq!(rt;
-        seen,
-        (Some(NoPicture::NoFrame), Some(NoPicture::Busy), frame)
-    );
+    let mut canvas = small(rt.alloc())?;
+    assert!(rt; is_drawn_at_the_flush(&mut canvas));
     Ok(())
 }
 

@@ -309,10 +309,10 @@ fn canvas_of(alloc: Global, script: &[u8], rig: &mut Rig) -> Result<Canvas, Fail
 }
 
 const TWO_FRAMES: &[u8] =
-    b"size 20 20\nrect r\nresize r 2 2\nrender\nmove r 7 7\nshow r\nrender\nload r\n";
+    b"size 20 20\nrect r\nresize r 2 2\nrender\nmove r 7 7\nshow r\nrender\nload r\nrect r\n";
 
 const TWO_FRAMES_LOG: &[u8] =
-    b"shown 1 20 20 1\nupdate 0 0 20 20\nshown 2 20 20 1\nupdate 4 4 8 8\nrefused kind 8\n";
+    b"shown 1 20 20 1\nupdate 0 0 20 20\nshown 2 20 20 1\nupdate 4 4 8 8\nrefused kind 8\nrefused exists 9\n";
 
 // A canvas has the frames and the updates of the lines that were played on it.
 #[test]
