@@ -6,7 +6,7 @@ use Rattle.ev_model.specs.Look.{Look, look_of, looks}
 use Rattle.ev_model.specs.Paint.{IsRedrawn}
 use Rattle.ev_model.specs.Stage.{stage}
 use Rattle.ev_model.specs.declared.scene.Record.{Record}
-use Rattle.ev_scene.specs.Captured.{Shot, IsShot}
+use Rattle.ev_scene.specs.Shot.{Shot, IsShot}
 use Rattle.ev_damage.specs.Places.{HaveOwnIds}
 
 -- the ids of what is seen of a captured scene differ

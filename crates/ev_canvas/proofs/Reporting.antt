@@ -16,7 +16,7 @@ use Rattle.ev_damage.proofs.Painting.{still}
 use Rattle.std.proofs.lemmas.Bool.{false_from_ne_true, true_from_ne_false}
 use Rattle.ev_preload.proofs.Running.{or_first, or_last}
 use Rattle.ev_canvas.specs.Starts.{Entry, Latest, Starts, OwesIf, OwesOn, left, is_running, is_shown, has_size_of, touched}
-use Rattle.ev_canvas.specs.Chain.{newest_of, AreStarts, AreComparable, Showing, frame_pixel, IsShowing, ShowsLast, Shows, Reports, AreReportedAfter, AreReported}
+use Rattle.ev_canvas.specs.History.{newest_of, AreStarts, AreComparable, Showing, frame_pixel, IsShowing, ShowsLast, Shows, Reports, AreReportedAfter, AreReported}
 use Rattle.ev_canvas.specs.declared.newest.End.{End}
 use Rattle.ev_canvas.specs.declared.newest.End.TheVariants as end
 

@@ -5,8 +5,8 @@ use Rattle.ev_model.specs.Capture.{Capture, capture_of}
 use Rattle.ev_scene.specs.Board.{board, stage_of}
 use Rattle.ev_damage.specs.Places.{HaveOwnIds}
 use Rattle.ev_canvas.specs.Starts.{Latest, Starts}
-use Rattle.ev_canvas.specs.Frames.{Frames, runs, started_of}
-use Rattle.ev_canvas.specs.Calls.{MayStart}
+use Rattle.ev_canvas.specs.CanvasFrames.{Frames, runs, started_of}
+use Rattle.ev_canvas.specs.CanvasCalls.{MayStart}
 use Rattle.ev_canvas.specs.Canvas.{Canvas, now_of, entry_of, latest_of}
 use Rattle.ev_canvas.specs.declared.newest.End.{End}
 use Rattle.ev_canvas.specs.declared.newest.End.TheVariants as end

@@ -9,7 +9,7 @@ use Rattle.ev_preload.specs.Loads.{Loads}
 use Rattle.ev_scene.specs.Board.{Kept, board}
 use Rattle.ev_scene.specs.Edits.{IsLeft}
 use Rattle.ev_canvas.specs.Starts.{Entry, Latest, is_running}
-use Rattle.ev_canvas.specs.Frames.{Frames, fresh, drawn_by}
+use Rattle.ev_canvas.specs.CanvasFrames.{Frames, fresh, drawn_by}
 use Rattle.ev_canvas.specs.Loading.{HaveObjects}
 use Rattle.ev_canvas.specs.Now.{Now}
 use Rattle.ev_canvas.specs.declared.canvas.Setup.{Setup}

@@ -4,8 +4,8 @@ use Rattle.ev_model.specs.Answer.{Answer, Bad}
 use Rattle.ev_model.specs.declared.command.Command.{Command}
 use Rattle.ev_model.specs.declared.command.Command.TheVariants as command
 use Rattle.ev_model.specs.declared.refusal.BadLine.TheVariants as bad
-use Rattle.ev_canvas.specs.Calls.{MayEdit, MayDamage, MayHide, area_of, cleared}
-use Rattle.ev_canvas.specs.Machine.{Setting, State, Turn, Does, Edited, Renders, LoadsFile, stays, told_result, told_edit, printed, rows, sums}
+use Rattle.ev_canvas.specs.CanvasCalls.{MayEdit, MayDamage, MayHide, area_of, cleared}
+use Rattle.ev_canvas.specs.Turns.{Setting, State, Turn, Does, Edited, Renders, LoadsFile, stays, told_result, told_edit, printed, rows, sums}
 
 -- a command that isn't built yet is a bad word
 abbrev pub unbuilt : ℕ → List Answer

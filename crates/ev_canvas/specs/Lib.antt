@@ -1,12 +1,12 @@
 pub mod Starts
-pub mod Frames
+pub mod CanvasFrames
 pub mod Events
 pub mod Loading
 pub mod Now
-pub mod Calls
+pub mod CanvasCalls
 pub mod Canvas
-pub mod Chain
+pub mod History
 pub mod Totals
-pub mod Machine
+pub mod Turns
 pub mod Commands
 pub mod Ledger

@@ -1,7 +1,7 @@
 // Rectangles that are given and hidden.
 ghost use Rattle.std.specs.Prelude.{◌≡◌};
-ghost use Rattle.ev_canvas.specs.Calls.{area_of};
-ghost use Rattle.ev_canvas.specs.Frames.{AddsRect};
+ghost use Rattle.ev_canvas.specs.CanvasCalls.{area_of};
+ghost use Rattle.ev_canvas.specs.CanvasFrames.{AddsRect};
 
 use crate::Canvas;
 use ev_geom::Rect;
@@ -9,7 +9,7 @@ use ev_model::Refusal;
 
 impl Canvas {
     ghost use Rattle.ev_canvas.specs.Canvas.{now_of};
-    ghost use Rattle.ev_canvas.specs.Calls.{MayDamage, MayHide, cleared};
+    ghost use Rattle.ev_canvas.specs.CanvasCalls.{MayDamage, MayHide, cleared};
 
     /// Gives a rectangle whose pixels the next start counts as touched. `Range` exactly where x or y
     /// leaves -1,000,000 to 1,000,000, or w or h leaves 0 to 1,000,000; `NoMemory` where there is no

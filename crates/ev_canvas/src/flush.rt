@@ -1,6 +1,6 @@
 // Frames that end: they are shown, or lost.
 ghost use Rattle.std.specs.Prelude.{◌≡◌, ◌≤◌, true};
-ghost use Rattle.ev_canvas.specs.Frames.{end_of, IsFlushed};
+ghost use Rattle.ev_canvas.specs.CanvasFrames.{end_of, IsFlushed};
 ghost use Rattle.ev_canvas.specs.Canvas.{entry_of, IsDrawn};
 
 use crate::Canvas;
@@ -30,8 +30,8 @@ pub enum Flushed {
 
 impl Canvas {
     ghost use Rattle.std.specs.Prelude.{IfSome};
-    ghost use Rattle.ev_canvas.specs.Frames.{runs, finish_of};
-    ghost use Rattle.ev_canvas.specs.Calls.{MayFlush};
+    ghost use Rattle.ev_canvas.specs.CanvasFrames.{runs, finish_of};
+    ghost use Rattle.ev_canvas.specs.CanvasCalls.{MayFlush};
     ghost use Rattle.ev_canvas.specs.Canvas.{now_of};
 
     /// What there is to flush: the running frame, which is drawn, or nothing.

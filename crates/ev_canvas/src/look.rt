@@ -17,7 +17,7 @@ pub enum NoPicture {
 
 impl Canvas {
     ghost use Rattle.ev_canvas.specs.Starts.{last_number};
-    ghost use Rattle.ev_canvas.specs.Frames.{IsPictureOf, IsDrawnLast, runs};
+    ghost use Rattle.ev_canvas.specs.CanvasFrames.{IsPictureOf, IsDrawnLast, runs};
 
     /// Whether a frame is running.
     pub(crate) fn is_running(&self) -> bool

@@ -2,7 +2,7 @@
 ghost use Rattle.std.specs.Prelude.{◌≡◌, ℤ, IfOk, None, Some};
 ghost use Rattle.ev_geom.specs.Bands.{has_pixel};
 ghost use Rattle.ev_canvas.specs.Starts.{is_running, is_lost, left};
-ghost use Rattle.ev_canvas.specs.Frames.{drawn_by};
+ghost use Rattle.ev_canvas.specs.CanvasFrames.{drawn_by};
 ghost use Rattle.ev_canvas.specs.Canvas.{latest_of};
 
 use crate::NoMemory;

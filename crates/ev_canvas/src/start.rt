@@ -34,8 +34,8 @@ pub enum StartErr {
 
 impl Canvas {
     ghost use Rattle.ev_canvas.specs.Starts.{Starts, last_number, next_number};
-    ghost use Rattle.ev_canvas.specs.Frames.{runs, started_of};
-    ghost use Rattle.ev_canvas.specs.Calls.{MayStart};
+    ghost use Rattle.ev_canvas.specs.CanvasFrames.{runs, started_of};
+    ghost use Rattle.ev_canvas.specs.CanvasCalls.{MayStart};
     ghost use Rattle.ev_canvas.specs.Canvas.{now_of, IsDrawn, entry_of, latest_of};
     ghost use Rattle.ev_canvas.specs.declared.newest.End.TheVariants.{Running};
 

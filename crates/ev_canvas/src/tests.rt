@@ -1,7 +1,7 @@
 // Frames of a canvas of which a part is hidden, and loads.
 ghost use Rattle.std.specs.Prelude.{◌≡◌, [], true, IfOk};
 ghost use Rattle.ev_model.specs.Limits.{IsEdit};
-ghost use Rattle.ev_canvas.specs.Frames.{runs};
+ghost use Rattle.ev_canvas.specs.CanvasFrames.{runs};
 
 use crate::{Canvas, Event, Finish, Flushed, NoPicture, Setup};
 use ev_geom::Rect;

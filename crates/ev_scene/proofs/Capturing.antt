@@ -8,7 +8,7 @@ use Rattle.ev_state.specs.Held.{Held}
 use Rattle.ev_model.specs.Limits.{IsObject, AreObjects}
 use Rattle.ev_model.specs.Stage.{values}
 use Rattle.ev_model.specs.declared.object.Object.{Object}
-use Rattle.ev_scene.specs.Slots.{of_id, value_of}
+use Rattle.ev_scene.specs.Ids.{of_id, value_of}
 use Rattle.ev_scene.specs.Board.{values_of}
 use Rattle.ev_scene.proofs.Places.{of_id_map}
 

@@ -17,11 +17,11 @@ use Rattle.ev_groups.specs.Groups.{place, group, siblings, with_group}
 use Rattle.ev_links.specs.Ties.{Ties, Tie, parent_at, clipper_at, has, released, IsSound}
 use Rattle.ev_links.specs.Calls.{Drops}
 use Rattle.ev_links.proofs.Ways.{has-Has}
-use Rattle.ev_scene.specs.Slots.{of_id, put, spread, value_of}
+use Rattle.ev_scene.specs.Ids.{of_id, put, spread, value_of}
 use Rattle.ev_scene.specs.Board.{Board, values_of, inside, ids_in}
 use Rattle.ev_scene.specs.Change.{apply}
 use Rattle.ev_scene.specs.Edits.{emptied, left, gone_from, deleted, clipped_by}
-use Rattle.ev_scene.specs.Ties.{tie_of, layer_at}
+use Rattle.ev_scene.specs.ObjectTies.{tie_of, layer_at}
 use Rattle.ev_scene.specs.Whole.{IsWhole}
 use Rattle.ev_scene.specs.declared.change.Change.TheVariants as change
 use Rattle.ev_scene.proofs.Places.{at_place, of_id_suc, of_id_put, of_id_map, same_slots, map_choice}

@@ -7,7 +7,7 @@ use Rattle.std.specs.Map.{lookup}
 use Rattle.std.proofs.lemmas.List.{map-set}
 use Rattle.std.proofs.lemmas.Bool.Decides.{nat_tests}
 use Rattle.std.proofs.lemmas.Option.{none-some, same_Some}
-use Rattle.ev_scene.specs.Slots.{of_id, put, value_of}
+use Rattle.ev_scene.specs.Ids.{of_id, put, value_of}
 use Rattle.ev_scene.specs.Change.{apply}
 use Rattle.ev_scene.specs.declared.change.Change.{Change}
 use Rattle.ev_scene.specs.declared.change.Change.TheVariants as change

@@ -17,12 +17,12 @@ use Rattle.ev_model.specs.declared.content.Kind.{Kind}
 use Rattle.ev_model.specs.declared.content.Kind.TheVariants as kind
 use Rattle.ev_model.specs.declared.object.Object.{Object}
 use Rattle.ev_links.specs.Ties.{has}
-use Rattle.ev_scene.specs.Slots.{of_id, live}
+use Rattle.ev_scene.specs.Ids.{of_id, live}
 use Rattle.ev_scene.specs.Board.{Board, named, is_named, inside, ids_in, stage_of}
 use Rattle.ev_scene.specs.Change.{apply, drawn, written, fresh, color_of, fill_of, border_of}
 use Rattle.ev_scene.specs.Edits.{effect, with_named, next_id, left, deleted, changed, shifted_by, shifted_all, moved, relaid, restacked, placed, rehomed, homed}
 use Rattle.ev_scene.specs.Given.{image_of, font_of, HasImage, HasFont, HasLoads, HoldsLoads}
-use Rattle.ev_scene.specs.Loads.{changed_at, with_image, with_font}
+use Rattle.ev_scene.specs.ObjectLoads.{changed_at, with_image, with_font}
 use Rattle.ev_scene.specs.declared.drawing.Drawing.{Drawing}
 use Rattle.ev_scene.specs.declared.drawing.Drawing.TheVariants as drawing
 use Rattle.ev_scene.specs.declared.writing.Writing.{Writing}

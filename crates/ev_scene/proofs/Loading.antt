@@ -7,7 +7,7 @@ use Rattle.ev_model.specs.Content.{kind_of}
 use Rattle.ev_model.specs.declared.content.Kind.{Kind}
 use Rattle.ev_model.specs.declared.object.Object.{Object}
 use Rattle.ev_links.specs.Ties.{Ties}
-use Rattle.ev_scene.specs.Slots.{of_id, put}
+use Rattle.ev_scene.specs.Ids.{of_id, put}
 use Rattle.ev_scene.specs.Board.{values_of}
 use Rattle.ev_scene.specs.Change.{apply, IsLook}
 use Rattle.ev_scene.specs.Whole.{IsWhole}

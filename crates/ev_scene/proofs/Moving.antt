@@ -11,7 +11,7 @@ use Rattle.ev_model.specs.Up.{is_smart}
 use Rattle.ev_model.specs.declared.object.Object.{Object}
 use Rattle.ev_model.specs.declared.refusal.Refusal.{Refusal}
 use Rattle.ev_model.specs.declared.refusal.Refusal.TheVariants as refusal
-use Rattle.ev_scene.specs.Slots.{of_id, put}
+use Rattle.ev_scene.specs.Ids.{of_id, put}
 use Rattle.ev_scene.specs.Board.{Board, MakesAtMost, inside, named}
 use Rattle.ev_scene.specs.Change.{apply}
 use Rattle.ev_scene.specs.Edits.{Answers, Refuses, unless, known, with_named, move_verdict, move_writes, is_at, moved, may_shift, shifted_all, objects_in, changed}

@@ -8,7 +8,7 @@ use Rattle.std.specs.Cmp.Lexicographic.{bytes_decides}
 use Rattle.std.proofs.lemmas.Bool.{eqb-true}
 use Rattle.ev_state.specs.Held.{Held}
 use Rattle.ev_model.specs.declared.object.Object.{Object}
-use Rattle.ev_scene.specs.Slots.{of_id, put, live, value_of}
+use Rattle.ev_scene.specs.Ids.{of_id, put, live, value_of}
 use Rattle.ev_scene.specs.Board.{is_named, named, values_of}
 use Rattle.ev_scene.specs.Roll.{id_in, name_at, IsRoll}
 use Rattle.ev_scene.specs.declared.label.Label.{Label}

@@ -15,7 +15,7 @@ use Rattle.ev_model.specs.declared.object.Object.{Object}
 use Rattle.ev_model.specs.declared.refusal.Refusal.TheVariants as refusal
 use Rattle.ev_links.specs.Ties.{Ties, Has, has, is_inside, IsSound}
 use Rattle.ev_links.proofs.Ways.{has-Has}
-use Rattle.ev_scene.specs.Slots.{of_id, spread}
+use Rattle.ev_scene.specs.Ids.{of_id, spread}
 use Rattle.ev_scene.specs.Board.{Board, inside, values_of}
 use Rattle.ev_scene.specs.Edits.{Refuses, unless, may_shift, shifted_by, shifted_all, objects_in}
 use Rattle.ev_scene.specs.Whole.{IsWhole}

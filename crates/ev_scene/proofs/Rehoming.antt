@@ -13,9 +13,9 @@ use Rattle.ev_groups.specs.Groups.{place, group, with_group}
 use Rattle.ev_links.specs.Ties.{Ties, parent_at, IsSound}
 use Rattle.ev_links.specs.Calls.{with_parent}
 use Rattle.ev_links.proofs.Sound.{parent_there}
-use Rattle.ev_scene.specs.Slots.{of_id, put}
+use Rattle.ev_scene.specs.Ids.{of_id, put}
 use Rattle.ev_scene.specs.Change.{apply}
-use Rattle.ev_scene.specs.Ties.{tie_of, layer_at}
+use Rattle.ev_scene.specs.ObjectTies.{tie_of, layer_at}
 use Rattle.ev_scene.specs.Whole.{IsWhole}
 use Rattle.ev_scene.specs.declared.change.Change.TheVariants as change
 use Rattle.ev_scene.proofs.Places.{id_low, id_high}

@@ -17,12 +17,12 @@ use Rattle.ev_groups.specs.Groups.{group, siblings}
 use Rattle.ev_links.specs.Ties.{Ties, clipper_at, has, IsSound, Counts}
 use Rattle.ev_links.proofs.Counts.{Counts-none}
 use Rattle.ev_links.proofs.Ways.{has-Has}
-use Rattle.ev_scene.specs.Slots.{of_id, spread, value_of}
+use Rattle.ev_scene.specs.Ids.{of_id, spread, value_of}
 use Rattle.ev_scene.specs.Board.{Board, MakesAtMost, values_of}
 use Rattle.ev_scene.specs.Change.{apply}
 use Rattle.ev_scene.specs.Edits.{clipped_by}
 use Rattle.ev_scene.specs.Roll.{IsStateOf}
-use Rattle.ev_scene.specs.Ties.{tie_of}
+use Rattle.ev_scene.specs.ObjectTies.{tie_of}
 use Rattle.ev_scene.specs.Whole.{IsWhole}
 use Rattle.ev_scene.specs.declared.change.Change.TheVariants as change
 use Rattle.ev_scene.proofs.Making.{makes_both}

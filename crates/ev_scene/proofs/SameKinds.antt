@@ -14,7 +14,7 @@ use Rattle.ev_model.specs.declared.content.Kind.{Kind}
 use Rattle.ev_model.specs.declared.object.Object.{Object}
 use Rattle.ev_model.specs.declared.refusal.Refusal.{Refusal}
 use Rattle.ev_links.specs.Ties.{has}
-use Rattle.ev_scene.specs.Slots.{of_id, live}
+use Rattle.ev_scene.specs.Ids.{of_id, live}
 use Rattle.ev_scene.specs.Board.{Board, Kept, board, named, inside, is_named}
 use Rattle.ev_scene.specs.Cast.{IsCast, kept_of, board_of}
 use Rattle.ev_scene.specs.Change.{apply, fresh, color_of, fill_of, border_of}

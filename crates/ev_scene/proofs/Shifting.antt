@@ -11,12 +11,12 @@ use Rattle.ev_model.specs.Limits.{IsObject}
 use Rattle.ev_model.specs.declared.object.Object.{Object}
 use Rattle.ev_groups.specs.Groups.{place}
 use Rattle.ev_links.specs.Ties.{Ties, has}
-use Rattle.ev_scene.specs.Slots.{of_id, spread, value_of}
+use Rattle.ev_scene.specs.Ids.{of_id, spread, value_of}
 use Rattle.ev_scene.specs.Board.{Board, values_of, inside}
 use Rattle.ev_scene.specs.Roll.{name_at, IsStateOf}
 use Rattle.ev_scene.specs.Change.{apply}
 use Rattle.ev_scene.specs.Edits.{may_shift, shifted_by, shifted_all}
-use Rattle.ev_scene.specs.Ties.{tie_of, layer_at}
+use Rattle.ev_scene.specs.ObjectTies.{tie_of, layer_at}
 use Rattle.ev_scene.specs.Whole.{IsWhole}
 use Rattle.ev_scene.specs.declared.change.Change.TheVariants as change
 use Rattle.ev_scene.proofs.Places.{of_id_map, same_slots}

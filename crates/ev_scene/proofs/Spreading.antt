@@ -10,7 +10,7 @@ use Rattle.std.proofs.lemmas.List.{map-set, map-append, length-append, length-se
 use Rattle.ev_state.specs.Held.{Held}
 use Rattle.ev_model.specs.declared.object.Object.{Object}
 use Rattle.ev_links.specs.Ties.{has}
-use Rattle.ev_scene.specs.Slots.{of_id, put, spread, value_of}
+use Rattle.ev_scene.specs.Ids.{of_id, put, spread, value_of}
 use Rattle.ev_scene.specs.Board.{values_of}
 use Rattle.ev_scene.specs.Roll.{name_at, IsStateOf}
 use Rattle.ev_scene.proofs.Places.{of_id_put}

@@ -22,10 +22,10 @@ use Rattle.ev_groups.specs.Groups.{place, group, with_group}
 use Rattle.ev_model.specs.declared.content.Kind.{Kind}
 use Rattle.ev_model.specs.declared.content.Kind.TheVariants.{Rect, Image, Text, Smart}
 use Rattle.ev_links.specs.Ties.{Tie, Ties, alone, released, parent_at, clipper_at, IsSound}
-use Rattle.ev_scene.specs.Slots.{of_id, put, value_of}
+use Rattle.ev_scene.specs.Ids.{of_id, put, value_of}
 use Rattle.ev_scene.specs.Board.{values_of}
 use Rattle.ev_scene.specs.Change.{apply, is_layer, fresh, drawn, IsDrawing, written, IsWriting, IsLook, IsFit}
-use Rattle.ev_scene.specs.Ties.{tie_of, layer_at}
+use Rattle.ev_scene.specs.ObjectTies.{tie_of, layer_at}
 use Rattle.ev_scene.specs.Whole.{IsWhole}
 use Rattle.ev_scene.specs.declared.drawing.Drawing.{Drawing}
 use Rattle.ev_scene.specs.declared.drawing.Drawing.TheVariants as drawing

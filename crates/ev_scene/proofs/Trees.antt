@@ -24,9 +24,9 @@ use Rattle.ev_links.specs.Ties.{Ties, clipper_at, parent_at, kind_at, has, Has, 
 use Rattle.ev_links.proofs.Sound.{parent_there, clipper_there, parents_end}
 use Rattle.ev_links.proofs.Ways.{has-Has, no_return}
 use Rattle.ev_links.proofs.Whole.{walk_whole}
-use Rattle.ev_scene.specs.Slots.{of_id, live}
+use Rattle.ev_scene.specs.Ids.{of_id, live}
 use Rattle.ev_scene.specs.Board.{Board, ids_in, inside, stage_of}
-use Rattle.ev_scene.specs.Ties.{tie_of, layer_at}
+use Rattle.ev_scene.specs.ObjectTies.{tie_of, layer_at}
 use Rattle.ev_scene.specs.Sound.{IsSound as IsSoundStage}
 use Rattle.ev_scene.specs.Whole.{IsWhole}
 use Rattle.ev_scene.proofs.Places.{of_id_suc, found, none_found}

@@ -15,12 +15,12 @@ use Rattle.ev_model.specs.declared.refusal.Refusal.TheVariants as refusal
 use Rattle.ev_links.specs.Ties.{Ties}
 use Rattle.ev_links.specs.Calls.{clip_fault, join_fault, leave_fault}
 use Rattle.ev_links.specs.declared.refusal.LinkErr.{LinkErr}
-use Rattle.ev_scene.specs.Slots.{of_id, put, live}
+use Rattle.ev_scene.specs.Ids.{of_id, put, live}
 use Rattle.ev_scene.specs.Board.{Board, named, values_of, ties_on}
 use Rattle.ev_scene.specs.Change.{apply}
 use Rattle.ev_scene.specs.Edits.{known, clip_verdict, join_verdict, leave_verdict, with_named, changed, rehomed, homed, Refuses, Answers}
-use Rattle.ev_scene.specs.Links.{refusal_of}
-use Rattle.ev_scene.specs.Ties.{tie_of, ties_of}
+use Rattle.ev_scene.specs.TieFaults.{refusal_of}
+use Rattle.ev_scene.specs.ObjectTies.{tie_of, ties_of}
 use Rattle.ev_scene.specs.Whole.{IsWhole}
 use Rattle.ev_scene.specs.declared.change.Change.{Change}
 use Rattle.ev_scene.specs.declared.change.Change.TheVariants as change

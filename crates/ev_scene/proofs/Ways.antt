@@ -14,7 +14,7 @@ use Rattle.ev_model.specs.Captured.{IsLinked}
 use Rattle.ev_model.specs.Chain.{ends}
 use Rattle.ev_model.specs.Up.{with_id, next}
 use Rattle.ev_model.specs.declared.object.Object.{Object}
-use Rattle.ev_scene.specs.Ties.{tie_of}
+use Rattle.ev_scene.specs.ObjectTies.{tie_of}
 
 -- ---- objects by their ids
 

@@ -8,8 +8,8 @@ use Rattle.ev_model.specs.Up.{is_smart}
 use Rattle.ev_model.specs.declared.object.Object.{Object}
 use Rattle.ev_groups.specs.Groups.{siblings}
 use Rattle.ev_links.specs.Ties.{Ties}
-use Rattle.ev_scene.specs.Slots.{of_id, live, value_of}
-use Rattle.ev_scene.specs.Ties.{ties_of}
+use Rattle.ev_scene.specs.Ids.{of_id, live, value_of}
+use Rattle.ev_scene.specs.ObjectTies.{ties_of}
 
 pub record Board : Type 0 where
   -- the size of the canvas in pixels

@@ -18,9 +18,9 @@ use Rattle.ev_stack.specs.Calls.{raised, lowered, relayered, placed_above, place
 use Rattle.ev_links.specs.Calls.{clip_fault, join_fault, leave_fault}
 use Rattle.ev_links.specs.Ties.{has}
 use Rattle.ev_groups.specs.Groups.{group, with_group, siblings}
-use Rattle.ev_scene.specs.Slots.{of_id, put, live}
+use Rattle.ev_scene.specs.Ids.{of_id, put, live}
 use Rattle.ev_scene.specs.Board.{Board, Kept, named, inside, ties_on}
-use Rattle.ev_scene.specs.Links.{refusal_of}
+use Rattle.ev_scene.specs.TieFaults.{refusal_of}
 use Rattle.ev_scene.specs.Change.{apply, fresh, is_layer, is_canvas, are_channels, color_of, is_fill, fill_of, is_border, border_of}
 use Rattle.ev_scene.specs.declared.drawing.Drawing.TheVariants as drawing
 use Rattle.ev_scene.specs.declared.writing.Writing.TheVariants as writing

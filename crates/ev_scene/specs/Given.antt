@@ -6,7 +6,7 @@ use Rattle.ev_model.specs.Raster.{Raster}
 use Rattle.ev_model.specs.declared.content.Content.{Content}
 use Rattle.ev_model.specs.declared.content.Content.TheVariants as content
 use Rattle.ev_model.specs.declared.object.Object.{Object}
-use Rattle.ev_scene.specs.Slots.{of_id}
+use Rattle.ev_scene.specs.Ids.{of_id}
 use Rattle.ev_scene.specs.Board.{Board}
 
 -- the loaded image of a content

@@ -5,7 +5,7 @@ use Rattle.ev_model.specs.Content.{kind_of}
 use Rattle.ev_model.specs.declared.command.Edit.{Edit}
 use Rattle.ev_model.specs.declared.command.Edit.TheVariants as edit
 use Rattle.ev_model.specs.declared.content.Kind.{Kind}
-use Rattle.ev_scene.specs.Slots.{of_id}
+use Rattle.ev_scene.specs.Ids.{of_id}
 use Rattle.ev_scene.specs.Board.{Board}
 
 -- the kind of the object of an id

@@ -4,7 +4,7 @@ use Rattle.std.specs.Map.{lookup}
 use Rattle.std.specs.Str.{bytes_eq}
 use Rattle.ev_state.specs.Held.{Held}
 use Rattle.ev_model.specs.declared.object.Object.{Object}
-use Rattle.ev_scene.specs.Slots.{of_id, live}
+use Rattle.ev_scene.specs.Ids.{of_id, live}
 use Rattle.ev_scene.specs.declared.label.Label.{Label}
 
 -- the states by id, how many were made, and for how many more there is room

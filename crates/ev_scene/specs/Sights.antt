@@ -10,7 +10,7 @@ use Rattle.ev_model.specs.Stage.{Stage, values, canvas}
 use Rattle.ev_model.specs.Up.{with_id, next, up, cut, is_clipped_by}
 use Rattle.ev_model.specs.Look.{Look}
 use Rattle.ev_model.specs.declared.object.Object.{Object}
-use Rattle.ev_scene.specs.Slots.{of_id}
+use Rattle.ev_scene.specs.Ids.{of_id}
 use Rattle.ev_scene.specs.Board.{values_of}
 use Rattle.ev_scene.specs.declared.sights.Ground.{Ground}
 use Rattle.ev_scene.specs.declared.sights.Sight.{Sight}

@@ -6,9 +6,9 @@ use Rattle.ev_model.specs.Limits.{IsObject}
 use Rattle.ev_model.specs.declared.object.Object.{Object}
 use Rattle.ev_stack.specs.Order.{layer_in}
 use Rattle.ev_links.specs.Ties.{Ties}
-use Rattle.ev_scene.specs.Slots.{of_id}
+use Rattle.ev_scene.specs.Ids.{of_id}
 use Rattle.ev_scene.specs.Board.{Board}
-use Rattle.ev_scene.specs.Ties.{tie_of, layer_at}
+use Rattle.ev_scene.specs.ObjectTies.{tie_of, layer_at}
 
 -- the canvas has 1 to 4096 columns and rows; each object stands under its id and keeps its limits; exactly the objects of a parent
 -- stand in its group, each with its layer; and the ties are those of the objects

@@ -3,9 +3,9 @@ ghost use Rattle.std.specs.Prelude.{◌≡◌, ◌++◌, IfOk, OnOk, None, optio
 ghost use Rattle.ev_model.specs.Stage.{stage, values};
 ghost use Rattle.ev_stack.specs.Order.{IsOrder};
 ghost use Rattle.ev_groups.specs.Groups.{group};
-ghost use Rattle.ev_scene.specs.Slots.{of_id};
+ghost use Rattle.ev_scene.specs.Ids.{of_id};
 ghost use Rattle.ev_scene.specs.Board.{board, stage_of, values_of, ids_in};
-ghost use Rattle.ev_scene.specs.Captured.{IsShot, AreOrders};
+ghost use Rattle.ev_scene.specs.Shot.{IsShot, AreOrders};
 ghost use Rattle.ev_scene.specs.Cast.{IsCast, board_of};
 
 use crate::cast::Cast;
@@ -23,7 +23,7 @@ pub struct Captured {
 }
 
 impl Model for Captured {
-    ghost use Rattle.ev_scene.specs.Captured.{Shot, IsShot};
+    ghost use Rattle.ev_scene.specs.Shot.{Shot, IsShot};
 
     ghost Value = { Shot };
 

@@ -6,11 +6,11 @@ ghost use Rattle.ev_model.specs.declared.object.Object.{Object};
 ghost use Rattle.ev_model.specs.declared.command.Edit.TheVariants as edit;
 ghost use Rattle.ev_links.specs.Ties.{parent_at, has};
 ghost use Rattle.ev_groups.specs.Groups.{siblings};
-ghost use Rattle.ev_scene.specs.Slots.{of_id, value_of};
+ghost use Rattle.ev_scene.specs.Ids.{of_id, value_of};
 ghost use Rattle.ev_scene.specs.Board.{values_of, inside, MakesAtMost};
 ghost use Rattle.ev_scene.specs.Cast.{IsCast, kept_of, board_of};
 ghost use Rattle.ev_scene.specs.Change.{apply};
-ghost use Rattle.ev_scene.specs.Ties.{tie_of};
+ghost use Rattle.ev_scene.specs.ObjectTies.{tie_of};
 ghost use Rattle.ev_scene.specs.Edits.{Edits, IsLeft, deleted, emptied, writes};
 ghost use Rattle.ev_scene.specs.declared.change.Change.TheVariants as change;
 

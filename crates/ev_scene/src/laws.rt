@@ -6,7 +6,7 @@ ghost use Rattle.ev_model.specs.declared.command.Edit.{Edit};
 ghost use Rattle.ev_scene.specs.Board.{Board, stage_of};
 ghost use Rattle.ev_scene.specs.Edits.{effect};
 ghost use Rattle.ev_scene.specs.Given.{HasImage, HasFont, HasLoads, HoldsLoads};
-ghost use Rattle.ev_scene.specs.Loads.{with_image, with_font};
+ghost use Rattle.ev_scene.specs.ObjectLoads.{with_image, with_font};
 
 /// A law: edits bring no loads. The loaded images and fonts that objects have after an edit, they
 /// had before it (docs/CANVAS.md, "Loads").

@@ -5,11 +5,11 @@ ghost use Rattle.ev_groups.specs.Groups.{place, group, with_group};
 ghost use Rattle.ev_links.specs.Calls.{with_parent};
 ghost use Rattle.ev_model.specs.declared.object.Object.{Object};
 ghost use Rattle.ev_model.specs.declared.command.Edit.TheVariants as edit;
-ghost use Rattle.ev_scene.specs.Slots.{of_id};
+ghost use Rattle.ev_scene.specs.Ids.{of_id};
 ghost use Rattle.ev_scene.specs.Board.{values_of, MakesAtMost};
 ghost use Rattle.ev_scene.specs.Cast.{IsCast, kept_of, board_of};
 ghost use Rattle.ev_scene.specs.Edits.{Edits, IsLeft, rehomed};
-ghost use Rattle.ev_scene.specs.Links.{refusal_of};
+ghost use Rattle.ev_scene.specs.TieFaults.{refusal_of};
 ghost use Rattle.ev_scene.specs.Whole.{IsWhole};
 
 use crate::NoMemory;

@@ -2,10 +2,10 @@
 ghost use Rattle.std.specs.Prelude.{◌≡◌, Some, OnOk, OnErr, option_map};
 ghost use Rattle.std.specs.Arc.{arc_value};
 ghost use Rattle.ev_model.specs.Content.{kind_of};
-ghost use Rattle.ev_scene.specs.Slots.{of_id, put};
+ghost use Rattle.ev_scene.specs.Ids.{of_id, put};
 ghost use Rattle.ev_scene.specs.Board.{values_of, MakesAtMost};
 ghost use Rattle.ev_scene.specs.Cast.{IsCast, board_of, kept_of};
-ghost use Rattle.ev_scene.specs.Loads.{key_of, with_image, with_font};
+ghost use Rattle.ev_scene.specs.ObjectLoads.{key_of, with_image, with_font};
 
 use crate::NoMemory;
 use crate::cast::Cast;

@@ -2,7 +2,7 @@
 ghost use Rattle.std.specs.Prelude.{◌≡◌, ℕ, zero, ◌+◌, ◌<◌, ◌^◌, ◌++◌, ◌∷◌, [], length, OnOk, OnErr, IfOk, IfSome, Some, None, option_map, option_copied, is_some, true, All, map, if◌then◌else◌};
 ghost use Rattle.ev_state.specs.Held.{Held};
 ghost use Rattle.ev_model.specs.declared.object.Object.{Object};
-ghost use Rattle.ev_scene.specs.Slots.{of_id, put, spread, live, value_of};
+ghost use Rattle.ev_scene.specs.Ids.{of_id, put, spread, live, value_of};
 ghost use Rattle.ev_scene.specs.Roll.{IsStateOf};
 ghost use Rattle.ev_scene.specs.Board.{named, values_of, MakesAtMost};
 ghost use Rattle.ev_scene.specs.Change.{apply, IsFit};

@@ -3,11 +3,11 @@ ghost use Rattle.std.specs.Prelude.{◌≡◌, [], ◌∷◌, IfOk, IfErr, IfSom
 ghost use Rattle.std.specs.Arc.{arc_value};
 ghost use Rattle.ev_model.specs.Content.{kind_of};
 ghost use Rattle.ev_model.specs.Limits.{IsEdit};
-ghost use Rattle.ev_scene.specs.Slots.{of_id, put};
+ghost use Rattle.ev_scene.specs.Ids.{of_id, put};
 ghost use Rattle.ev_scene.specs.Board.{board, named, MakesAtMost};
 ghost use Rattle.ev_scene.specs.Edits.{Edits, IsLeft, writes};
 ghost use Rattle.ev_scene.specs.Kinds.{KeepsKinds, is_delete};
-ghost use Rattle.ev_scene.specs.Loads.{key_of, with_image, with_font};
+ghost use Rattle.ev_scene.specs.ObjectLoads.{key_of, with_image, with_font};
 
 use crate::NoMemory;
 use crate::cast::Cast;

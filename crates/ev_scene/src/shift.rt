@@ -5,7 +5,7 @@ ghost use Rattle.ev_geom.specs.Area.{is_place, IsPlace};
 ghost use Rattle.ev_model.specs.Up.{is_smart};
 ghost use Rattle.ev_model.specs.declared.object.Object.{Object};
 ghost use Rattle.ev_model.specs.declared.command.Edit.TheVariants as edit;
-ghost use Rattle.ev_scene.specs.Slots.{of_id, value_of};
+ghost use Rattle.ev_scene.specs.Ids.{of_id, value_of};
 ghost use Rattle.ev_scene.specs.Board.{values_of, inside, MakesAtMost};
 ghost use Rattle.ev_scene.specs.Cast.{IsCast, kept_of, board_of};
 ghost use Rattle.ev_scene.specs.Edits.{Edits, IsLeft, Refuses, unless, may_shift, shifted_by, shifted_all, objects_in, IsShift, writes};

@@ -6,7 +6,7 @@ ghost use Rattle.ev_model.specs.Chain.{ends};
 ghost use Rattle.ev_model.specs.Look.{look_of, look, looks};
 ghost use Rattle.ev_model.specs.Stage.{values};
 ghost use Rattle.ev_model.specs.Up.{with_id, next, cut, is_clipped_by};
-ghost use Rattle.ev_scene.specs.Slots.{of_id};
+ghost use Rattle.ev_scene.specs.Ids.{of_id};
 ghost use Rattle.ev_scene.specs.Board.{values_of};
 ghost use Rattle.ev_scene.specs.Sights.{over, way, Ends, tinted, is_white, IsColor, TintsAs, IsSight, bare, lowered, AreSights, IsClimbed, AreClippers, stage_on, IsGround, look_as};
 

@@ -7,7 +7,7 @@ use Rattle.std.proofs.lemmas.Grind.{fold-append, flat_map-append}
 use Rattle.ev_argb.specs.Argb.{Argb}
 use Rattle.ev_model.specs.Answer.{Sum}
 use Rattle.ev_canvas.specs.Totals.{shown_part, weighted, totals}
-use Rattle.ev_script.specs.Totals.{Counts, told, none, with_place}
+use Rattle.ev_script.specs.PixelTotals.{Counts, told, none, with_place}
 
 -- counting pixels on top of totals
 abbrev pub counted : Counts → List (Option Argb) → Counts

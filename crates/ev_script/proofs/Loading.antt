@@ -22,15 +22,15 @@ use Rattle.ev_preload.specs.Loads.{Loads, hold, collected, without, after_hold, 
 use Rattle.ev_preload.specs.declared.preload.Preload.{Preload}
 use Rattle.ev_preload.specs.declared.end.LoadEnd.{LoadEnd}
 use Rattle.ev_preload.specs.declared.end.LoadEnd.TheVariants as ended
-use Rattle.ev_canvas.specs.Calls.{MayPreload, MayCollect, held}
+use Rattle.ev_canvas.specs.CanvasCalls.{MayPreload, MayCollect, held}
 use Rattle.ev_canvas.specs.Canvas.{Canvas, now_of}
 use Rattle.ev_canvas.specs.Events.{event_of, first_event, later_events, told_event}
-use Rattle.ev_canvas.specs.Frames.{runs}
+use Rattle.ev_canvas.specs.CanvasFrames.{runs}
 use Rattle.ev_canvas.specs.Loading.{EndsSo, Collects}
 use Rattle.ev_canvas.specs.Now.{Now}
 use Rattle.ev_canvas.specs.Starts.{last_number}
 use Rattle.ev_canvas.specs.declared.event.Event.{Event}
-use Rattle.ev_script.specs.Machine.{store_failures, lost_frames}
+use Rattle.ev_script.specs.Script.{store_failures, lost_frames}
 use Rattle.ev_script.specs.Outside.{Devices, devices}
 use Rattle.ev_script.specs.Session.{Acts}
 use Rattle.ev_script.specs.declared.outcome.Outcome.TheVariants as outcome

@@ -3,9 +3,9 @@ use Rattle.std.proofs.Common.{◌≡◌, ℕ, ◌+◌, ◌<◌, ◌≤◌, List,
 use Rattle.std.proofs.lemmas.List.{map-append}
 use Rattle.ev_port.specs.Told.{GrowsBy, grows_by_none}
 use Rattle.ev_port.specs.Frame.{Frame}
-use Rattle.ev_canvas.specs.Chain.{Showing, Shows, ShowsLast, AreStarts, newest_of}
+use Rattle.ev_canvas.specs.History.{Showing, Shows, ShowsLast, AreStarts, newest_of}
 use Rattle.ev_canvas.specs.Starts.{Latest, is_shown, last_number}
-use Rattle.ev_script.specs.Frames.{RisesWithin, ShowsInOrder}
+use Rattle.ev_script.specs.ScreenFrames.{RisesWithin, ShowsInOrder}
 
 abbrev frames : List Showing → List Frame
 frames showings = map (λ s. s.frame) showings

@@ -10,13 +10,13 @@ use Rattle.ev_model.specs.Answer.{Answer, DumpRow}
 use Rattle.ev_model.specs.Paint.{IsRedrawn}
 use Rattle.ev_canvas.specs.Starts.{Entry, Latest, is_running}
 use Rattle.ev_canvas.specs.Totals.{totals}
-use Rattle.ev_canvas.specs.Machine as machine
-use Rattle.ev_canvas.specs.Frames.{Frames, IsPictureOf, IsDrawnLast, drawn_by, picture_refusal, runs}
+use Rattle.ev_canvas.specs.Turns as machine
+use Rattle.ev_canvas.specs.CanvasFrames.{Frames, IsPictureOf, IsDrawnLast, drawn_by, picture_refusal, runs}
 use Rattle.ev_canvas.specs.declared.look.NoPicture.{NoPicture}
 use Rattle.ev_canvas.specs.declared.look.NoPicture.TheVariants as no_picture
-use Rattle.ev_script.specs.Machine.{lost_frames, store_failures}
-use Rattle.ev_script.specs.Told.{of_drawn}
-use Rattle.ev_script.specs.Places.{unhidden, unhidden_row, place_row, places}
+use Rattle.ev_script.specs.Script.{lost_frames, store_failures}
+use Rattle.ev_script.specs.LineReplies.{of_drawn}
+use Rattle.ev_script.specs.Dumps.{unhidden, unhidden_row, place_row, places}
 
 -- two functions that agree below a bound make the same list of a range below it
 pub same_map : {A : Type 0} (f g : ℕ → A) (from count bound : ℕ) → from + count ≡ bound → ((k : ℕ) → k < bound → f k ≡ g k) → map f (range_with_len from count) ≡ map g (range_with_len from count)

@@ -1,7 +1,7 @@
 -- Fewer than two words that are left.
 use Rattle.std.proofs.Common.{ℕ, ◌≡◌, ◌<◌, ◌==◌, List, [], ◌∷◌, length, None, Bor, refl, arith}
 use Rattle.ev_script.specs.Status.{texts}
-use Rattle.ev_script.specs.Words.{are_pairs, value_of}
+use Rattle.ev_script.specs.Options.{are_pairs, value_of}
 
 -- they give an option no value
 pub no_value : (option : List ℕ) (words : List (Bor (List ℕ))) → length words < 2 → value_of option (texts words) ≡ None

@@ -14,20 +14,20 @@ use Rattle.ev_lang.specs.Lines.{lines, line_of, first_line, after_line}
 use Rattle.ev_lang.specs.declared.line.Line.{Line}
 use Rattle.ev_lang.specs.declared.line.Line.TheVariants as line
 use Rattle.ev_canvas.specs.Canvas.{Canvas, opened as new_canvas}
-use Rattle.ev_canvas.specs.Frames.{runs}
-use Rattle.ev_canvas.specs.Chain.{Showing, Shows}
+use Rattle.ev_canvas.specs.CanvasFrames.{runs}
+use Rattle.ev_canvas.specs.History.{Showing, Shows}
 use Rattle.ev_canvas.specs.Ledger.{IsSound}
 use Rattle.ev_canvas.specs.declared.canvas.Setup.{Setup}
-use Rattle.ev_canvas.specs.Machine.{Setting, State, Turn, opening, starts_of}
+use Rattle.ev_canvas.specs.Turns.{Setting, State, Turn, opening, starts_of}
 use Rattle.ev_canvas.specs.Starts.{Latest, last_number}
 use Rattle.ev_canvas.proofs.Accounting.{commanded, opened}
 use Rattle.ev_canvas.proofs.Reporting.{reported}
-use Rattle.ev_script.specs.Machine.{Step, Plays, losses_of, lost_frames, store_failures_of, store_failures}
+use Rattle.ev_script.specs.Script.{Step, Plays, losses_of, lost_frames, store_failures_of, store_failures}
 use Rattle.ev_script.specs.Outside.{Devices, outside}
 use Rattle.ev_script.specs.Session.{IsReady, Acts, CarriesOut, setting, state_of}
-use Rattle.ev_script.specs.Frames.{ShowsInOrder}
+use Rattle.ev_script.specs.ScreenFrames.{ShowsInOrder}
 use Rattle.ev_script.specs.declared.outcome.Outcome.{Outcome}
-use Rattle.ev_script.specs.Told.{told}
+use Rattle.ev_script.specs.LineReplies.{told}
 use Rattle.ev_script.specs.Play.{script_lines, IsPlayedOn, IsStopped}
 use Rattle.ev_script.proofs.Orders.{shown_in_order}
 

@@ -15,11 +15,11 @@ use Rattle.ev_model.specs.Capture.{capture_of}
 use Rattle.ev_model.specs.declared.command.Command.TheVariants as command
 use Rattle.ev_lang.specs.declared.line.Line.TheVariants as line
 use Rattle.ev_scene.specs.Board.{board, stage_of}
-use Rattle.ev_canvas.specs.Calls.{MayStart, MayFlush}
+use Rattle.ev_canvas.specs.CanvasCalls.{MayStart, MayFlush}
 use Rattle.ev_canvas.specs.Canvas.{Canvas, now_of}
-use Rattle.ev_canvas.specs.Chain.{Showing, IsShowing, Shows, frame_pixel}
-use Rattle.ev_canvas.specs.Frames.{Frames, IsStarted, Seen, IsFlushed, Presents, ended, end_of, runs}
-use Rattle.ev_canvas.specs.Machine.{starts_from, starts_of, start_refusal, told_flush, told_frame}
+use Rattle.ev_canvas.specs.History.{Showing, IsShowing, Shows, frame_pixel}
+use Rattle.ev_canvas.specs.CanvasFrames.{Frames, IsStarted, Seen, IsFlushed, Presents, ended, end_of, runs}
+use Rattle.ev_canvas.specs.Turns.{starts_from, starts_of, start_refusal, told_flush, told_frame}
 use Rattle.ev_canvas.specs.Now.{Now}
 use Rattle.ev_canvas.specs.Starts.{Entry, Latest, is_running, last_number}
 use Rattle.ev_canvas.specs.declared.flush.Flushed.{Flushed}
@@ -27,10 +27,10 @@ use Rattle.ev_canvas.specs.declared.flush.Flushed.TheVariants as flushes
 use Rattle.ev_canvas.specs.declared.start.Started.{Started}
 use Rattle.ev_canvas.specs.declared.start.StartErr.{StartErr}
 use Rattle.ev_canvas.specs.declared.start.StartErr.TheVariants as start_err
-use Rattle.ev_script.specs.Machine.{lost_frames, store_failures}
+use Rattle.ev_script.specs.Script.{lost_frames, store_failures}
 use Rattle.ev_script.specs.Outside.{Devices, devices}
 use Rattle.ev_script.specs.Session.{TakesTurn, Acts, setting, state_of}
-use Rattle.ev_script.specs.Told.{told, of_drawn, shown_frame, of_flush}
+use Rattle.ev_script.specs.LineReplies.{told, of_drawn, shown_frame, of_flush}
 use Rattle.ev_script.specs.declared.outcome.Outcome.TheVariants as outcome
 use Rattle.ev_script.proofs.Turns.{refused_acts}
 

@@ -14,21 +14,21 @@ use Rattle.ev_model.specs.declared.refusal.Refusal.{Refusal}
 use Rattle.ev_model.specs.declared.refusal.Refusal.TheVariants.{Busy, NoFrame}
 use Rattle.ev_lang.specs.declared.line.Line.{Line}
 use Rattle.ev_lang.specs.declared.line.Line.TheVariants as line
-use Rattle.ev_canvas.specs.Calls.{MayEdit, MayDamage, MayHide, area_of, cleared}
+use Rattle.ev_canvas.specs.CanvasCalls.{MayEdit, MayDamage, MayHide, area_of, cleared}
 use Rattle.ev_canvas.specs.Canvas.{Canvas, now_of}
-use Rattle.ev_canvas.specs.Chain.{Showing, Shows}
+use Rattle.ev_canvas.specs.History.{Showing, Shows}
 use Rattle.ev_canvas.specs.Commands.{unbuilt}
 use Rattle.ev_canvas.specs.Events.{told_event}
-use Rattle.ev_canvas.specs.Frames.{picture_refusal, runs}
+use Rattle.ev_canvas.specs.CanvasFrames.{picture_refusal, runs}
 use Rattle.ev_canvas.specs.Loading.{kept, gone}
-use Rattle.ev_canvas.specs.Machine.{Setting, stays, starts_from, told_result, printed}
+use Rattle.ev_canvas.specs.Turns.{Setting, stays, starts_from, told_result, printed}
 use Rattle.ev_canvas.specs.Now.{Now}
 use Rattle.ev_canvas.specs.Starts.{Entry, Latest, is_running, last_number}
 use Rattle.ev_canvas.specs.declared.look.NoPicture.TheVariants as no_picture
-use Rattle.ev_script.specs.Machine.{Step, lost_frames, store_failures}
+use Rattle.ev_script.specs.Script.{Step, lost_frames, store_failures}
 use Rattle.ev_script.specs.Outside.{Devices}
 use Rattle.ev_script.specs.Session.{TakesTurn, Acts, setting, state_of}
-use Rattle.ev_script.specs.Told.{told, of_change, of_drawn, of_picture}
+use Rattle.ev_script.specs.LineReplies.{told, of_change, of_drawn, of_picture}
 use Rattle.ev_script.specs.declared.outcome.Outcome.{Outcome}
 use Rattle.ev_script.specs.declared.outcome.Outcome.TheVariants as outcome
 

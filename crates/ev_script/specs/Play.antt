@@ -6,10 +6,10 @@ use Rattle.ev_model.specs.Answer.{Answer}
 use Rattle.ev_model.specs.Text.{text}
 use Rattle.ev_lang.specs.declared.line.Line.{Line}
 use Rattle.ev_lang.specs.Lines.{lines, line_of}
-use Rattle.ev_canvas.specs.Chain.{Showing, Shows, AreReported}
+use Rattle.ev_canvas.specs.History.{Showing, Shows, AreReported}
 use Rattle.ev_canvas.specs.Canvas.{Canvas, now_of}
-use Rattle.ev_canvas.specs.Machine.{Setting, State, Turn, opening, starts_of}
-use Rattle.ev_script.specs.Machine.{Step, Plays, lost_frames, store_failures}
+use Rattle.ev_canvas.specs.Turns.{Setting, State, Turn, opening, starts_of}
+use Rattle.ev_script.specs.Script.{Step, Plays, lost_frames, store_failures}
 use Rattle.ev_script.specs.Outside.{Outside}
 
 -- what the lines of a script say

@@ -7,14 +7,14 @@ use Rattle.ev_model.specs.Answer.{Answer}
 use Rattle.ev_model.specs.Text.{text}
 use Rattle.ev_lang.specs.declared.line.Line.{Line}
 use Rattle.ev_canvas.specs.Canvas.{Canvas, now_of}
-use Rattle.ev_canvas.specs.Chain.{Showing, Shows}
-use Rattle.ev_canvas.specs.Frames.{runs}
-use Rattle.ev_canvas.specs.Machine.{Setting, State, starts_of}
+use Rattle.ev_canvas.specs.History.{Showing, Shows}
+use Rattle.ev_canvas.specs.CanvasFrames.{runs}
+use Rattle.ev_canvas.specs.Turns.{Setting, State, starts_of}
 use Rattle.ev_canvas.specs.Starts.{Latest, last_number}
 use Rattle.ev_canvas.specs.declared.canvas.Setup.{Setup}
-use Rattle.ev_script.specs.Machine.{Step, lost_frames, store_failures}
+use Rattle.ev_script.specs.Script.{Step, lost_frames, store_failures}
 use Rattle.ev_script.specs.Outside.{Devices, Writes}
-use Rattle.ev_script.specs.Told.{told}
+use Rattle.ev_script.specs.LineReplies.{told}
 use Rattle.ev_script.specs.declared.outcome.Outcome.{Outcome}
 
 -- what a script is played on: a canvas set up so, and a store with these files, where it tells them

@@ -6,11 +6,11 @@ ghost use Rattle.ev_model.specs.Limits.{IsCommand};
 ghost use Rattle.ev_model.specs.declared.command.Command.TheVariants as command;
 ghost use Rattle.ev_lang.specs.Value.{IsLine};
 ghost use Rattle.ev_lang.specs.declared.line.Line.TheVariants as line;
-ghost use Rattle.ev_canvas.specs.Frames.{picture_refusal};
-ghost use Rattle.ev_canvas.specs.Machine.{start_refusal};
+ghost use Rattle.ev_canvas.specs.CanvasFrames.{picture_refusal};
+ghost use Rattle.ev_canvas.specs.Turns.{start_refusal};
 ghost use Rattle.ev_script.specs.Outside.{devices};
 ghost use Rattle.ev_script.specs.Session.{IsReady, Acts};
-ghost use Rattle.ev_script.specs.Told.{of_picture, of_flush};
+ghost use Rattle.ev_script.specs.LineReplies.{of_picture, of_flush};
 
 use crate::outcome::{Outcome, of_change};
 use ev_canvas::{Canvas, Flushed, NoPicture, StartErr};

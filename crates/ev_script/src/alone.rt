@@ -2,10 +2,10 @@
 ghost use Rattle.std.specs.Prelude.{◌≡◌, ◌≤◌, ◌<◌, ◌^◌, false, true, not, length};
 ghost use Rattle.ev_port.specs.Causes.{Rose};
 ghost use Rattle.ev_script.specs.Outside.{outside};
-ghost use Rattle.ev_script.specs.Frames.{ShowsInOrder};
+ghost use Rattle.ev_script.specs.ScreenFrames.{ShowsInOrder};
 ghost use Rattle.ev_script.specs.Play.{IsPlayed, IsStopped, OfScript};
 ghost use Rattle.ev_script.specs.Session.{setting};
-ghost use Rattle.ev_script.specs.Words.{are_pairs, options_of, setup_of};
+ghost use Rattle.ev_script.specs.Options.{are_pairs, options_of, setup_of};
 ghost use Rattle.ev_script.specs.Status.{is_before_lines, is_too_long, is_usage, Takes, IsFine, texts};
 
 use crate::script::{Played, play_alone};

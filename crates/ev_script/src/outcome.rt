@@ -1,6 +1,6 @@
 // What carrying out a line gave.
 ghost use Rattle.std.specs.Prelude.{◌≡◌};
-ghost use Rattle.ev_script.specs.Told.{of_change};
+ghost use Rattle.ev_script.specs.LineReplies.{of_change};
 
 use ev_canvas::Event;
 use ev_model::{BadLine, Refusal};

@@ -6,7 +6,7 @@ ghost use Rattle.ev_port.specs.Told.{GrowsBy, GrowsPart};
 ghost use Rattle.ev_port.specs.Causes.{HasCause};
 ghost use Rattle.ev_model.specs.Answer.{DumpRow};
 ghost use Rattle.ev_model.specs.Text.{text, reply_text};
-ghost use Rattle.ev_script.specs.Places.{unhidden, unhidden_row, place_row};
+ghost use Rattle.ev_script.specs.Dumps.{unhidden, unhidden_row, place_row};
 
 use ev_argb::{MAX_SIDE, Picture, Pixel};
 use ev_lang::write_reply;

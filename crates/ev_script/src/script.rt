@@ -3,7 +3,7 @@ ghost use Rattle.std.specs.Prelude.{◌≡◌, ◌≤◌, length, []};
 ghost use Rattle.ev_port.specs.Causes.{Rose};
 ghost use Rattle.ev_canvas.specs.Canvas.{opened};
 ghost use Rattle.ev_script.specs.Outside.{outside};
-ghost use Rattle.ev_script.specs.Frames.{ShowsInOrder};
+ghost use Rattle.ev_script.specs.ScreenFrames.{ShowsInOrder};
 ghost use Rattle.ev_script.specs.Session.{setting};
 ghost use Rattle.ev_script.specs.Play.{IsPlayedOn, IsStopped};
 

@@ -4,7 +4,7 @@ ghost use Rattle.ev_port.specs.Causes.{Rose};
 ghost use Rattle.ev_port.specs.Told.{counted};
 ghost use Rattle.ev_script.specs.Play.{IsRead};
 ghost use Rattle.ev_script.specs.Status.{Takes};
-ghost use Rattle.ev_script.specs.Reading.{is_long};
+ghost use Rattle.ev_script.specs.ScriptReading.{is_long};
 
 use ev_port::Source;
 use std::alloc::{AllocError, Global};

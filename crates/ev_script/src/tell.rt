@@ -4,9 +4,9 @@ ghost use Rattle.ev_port.specs.Causes.{HasCause};
 ghost use Rattle.ev_model.specs.Answer.{answer};
 ghost use Rattle.ev_model.specs.Text.{text};
 ghost use Rattle.ev_canvas.specs.Events.{told_event};
-ghost use Rattle.ev_canvas.specs.Machine.{rows, sums};
+ghost use Rattle.ev_canvas.specs.Turns.{rows, sums};
 ghost use Rattle.ev_script.specs.Outside.{Writes};
-ghost use Rattle.ev_script.specs.Told.{told, shown_frame, of_drawn};
+ghost use Rattle.ev_script.specs.LineReplies.{told, shown_frame, of_drawn};
 
 use crate::outcome::Outcome;
 use crate::picture::write_rows;

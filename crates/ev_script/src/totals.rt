@@ -2,8 +2,8 @@
 ghost use Rattle.std.specs.Prelude.{◌≡◌, ◌≤◌, ◌<◌, ◌+◌, ◌^◌, fold, length};
 ghost use Rattle.ev_argb.specs.Grid.{IsWhole};
 ghost use Rattle.ev_model.specs.Answer.{answer};
-ghost use Rattle.ev_script.specs.Places.{places};
-ghost use Rattle.ev_script.specs.Totals.{told, none, with_pixel, with_place};
+ghost use Rattle.ev_script.specs.Dumps.{places};
+ghost use Rattle.ev_script.specs.PixelTotals.{told, none, with_pixel, with_place};
 ghost use Rattle.ev_canvas.specs.Totals.{totals};
 
 use crate::picture::{ROW, show_row};
@@ -25,7 +25,7 @@ pub struct Totals {
 }
 
 impl Model for Totals {
-    ghost use Rattle.ev_script.specs.Totals.{Counts, IsSmall};
+    ghost use Rattle.ev_script.specs.PixelTotals.{Counts, IsSmall};
 
     ghost Value = { Counts };
 

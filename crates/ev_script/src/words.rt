@@ -1,7 +1,7 @@
 // The words of a run.
 ghost use Rattle.std.specs.Prelude.{◌≡◌, ◌≤◌, ◌↔◌, false, length, option_map, IfOk, IfSome, IsErrOf, Ok, Err, if◌then◌else◌, codes, string_bytes};
 ghost use Rattle.ev_script.specs.Status.{texts};
-ghost use Rattle.ev_script.specs.Words.{are_pairs, begins_dash, buffers, cell, is_of_kind, number_or, options_of, takes, value_of, workers};
+ghost use Rattle.ev_script.specs.Options.{are_pairs, begins_dash, buffers, cell, is_of_kind, number_or, options_of, takes, value_of, workers};
 
 use ev_lang::natural;
 use std::alloc::{AllocError, Global};

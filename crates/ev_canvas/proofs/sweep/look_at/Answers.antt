@@ -1,7 +1,7 @@
 use Rattle.std.proofs.Common.{◌++◌, [], ◌∷◌, is_some, ap, sym, ◌∙◌}
 use Rattle.ev_preload.specs.Loads.{Loads}
 use Rattle.ev_scene.specs.Board.{board}
-use Rattle.ev_scene.specs.Slots.{of_id}
+use Rattle.ev_scene.specs.Ids.{of_id}
 use Rattle.ev_canvas.specs.declared.event.Event.TheVariants.{Cancelled}
 use Rattle.ev_canvas.proofs.Sweeping.{others, missing, present, passed, cancelled}
 use Rattle.ev_canvas.proofs.sweep.look_at.Goals as goal

@@ -1,6 +1,6 @@
 use Rattle.std.proofs.Common.{None, map, ap, sym, ◌∙◌}
 use Rattle.ev_groups.specs.Groups.{siblings}
-use Rattle.ev_scene.specs.Slots.{value_of}
+use Rattle.ev_scene.specs.Ids.{value_of}
 use Rattle.ev_scene.specs.Board.{values_of}
 use Rattle.ev_scene.specs.Change.{apply}
 use Rattle.ev_scene.specs.declared.change.Change.TheVariants as change

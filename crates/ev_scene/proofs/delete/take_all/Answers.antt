@@ -1,6 +1,6 @@
 use Rattle.std.proofs.Common.{None, refl, ◌∙◌}
 use Rattle.ev_links.proofs.Sweeps.{swept_more, swept_all}
-use Rattle.ev_scene.specs.Slots.{of_id}
+use Rattle.ev_scene.specs.Ids.{of_id}
 use Rattle.ev_scene.proofs.Deleting.{taken_at, length-taken}
 use Rattle.ev_scene.proofs.delete.take_all.Goals as goal
 

@@ -1,6 +1,6 @@
 use Rattle.std.proofs.Common.{◌≡◌, ℕ, None, if◌then◌else◌, length, drop}
 use Rattle.ev_links.specs.Ties.{has}
-use Rattle.ev_scene.specs.Slots.{of_id}
+use Rattle.ev_scene.specs.Ids.{of_id}
 use Rattle.ev_scene.proofs.delete.take_all.Given as goal
 
 -- once those that are left are gone, all are

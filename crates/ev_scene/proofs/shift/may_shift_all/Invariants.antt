@@ -1,6 +1,6 @@
 use Rattle.std.proofs.Common.{◌≡◌, filter_map, drop}
 use Rattle.std.specs.List.{list_all}
-use Rattle.ev_scene.specs.Slots.{of_id}
+use Rattle.ev_scene.specs.Ids.{of_id}
 use Rattle.ev_scene.specs.Board.{values_of}
 use Rattle.ev_scene.specs.Edits.{may_shift}
 use Rattle.ev_scene.proofs.shift.may_shift_all.Given as goal

@@ -1,6 +1,6 @@
 use Rattle.std.proofs.Common.{FitsSigned, w64, ap, ap₂, ◌∙◌, rules}
 use Rattle.std.proofs.lemmas.Int.{to_z-of_z}
-use Rattle.ev_scene.specs.Slots.{of_id}
+use Rattle.ev_scene.specs.Ids.{of_id}
 use Rattle.ev_scene.specs.Board.{values_of}
 use Rattle.ev_scene.specs.Edits.{may_shift, shifted_by}
 use Rattle.ev_scene.proofs.Shifting.{one_passes, made_of}

@@ -1,6 +1,6 @@
 use Rattle.std.proofs.Common.{map, filter_map, FitsSigned, w64, ap₂, ◌∙◌, rules}
 use Rattle.std.proofs.lemmas.Int.{to_z-of_z}
-use Rattle.ev_scene.specs.Slots.{of_id, value_of}
+use Rattle.ev_scene.specs.Ids.{of_id, value_of}
 use Rattle.ev_scene.specs.Board.{values_of}
 use Rattle.ev_scene.specs.Edits.{shifted_by}
 use Rattle.ev_scene.proofs.Making.{makes_both}

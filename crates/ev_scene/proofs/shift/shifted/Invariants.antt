@@ -1,6 +1,6 @@
 use Rattle.std.proofs.Common.{◌≡◌, ◌++◌, true, map, filter_map, drop}
 use Rattle.std.specs.List.{list_all}
-use Rattle.ev_scene.specs.Slots.{of_id, value_of}
+use Rattle.ev_scene.specs.Ids.{of_id, value_of}
 use Rattle.ev_scene.specs.Board.{values_of, MakesAtMost}
 use Rattle.ev_scene.specs.Edits.{may_shift, shifted_by}
 use Rattle.ev_scene.proofs.shift.shifted.Given as goal

@@ -5,7 +5,7 @@ use Rattle.ev_geom.specs.Area.{limited}
 use Rattle.ev_geom.proofs.Areas.{same_area}
 use Rattle.std.specs.List.{range_with_len}
 use Rattle.ev_model.specs.declared.command.Command.TheVariants as command
-use Rattle.ev_canvas.specs.Machine.{rows, sums, stays, place_row}
+use Rattle.ev_canvas.specs.Turns.{rows, sums, stays, place_row}
 use Rattle.ev_script.specs.Session.{state_of}
 use Rattle.ev_script.specs.declared.outcome.Outcome.TheVariants as outcome
 use Rattle.ev_script.proofs.Painting.{rows_lose_none, rows_fail_none}

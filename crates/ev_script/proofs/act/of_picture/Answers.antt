@@ -1,5 +1,5 @@
 use Rattle.std.proofs.Common.{ap, sym}
-use Rattle.ev_script.specs.Told.{of_picture}
+use Rattle.ev_script.specs.LineReplies.{of_picture}
 use Rattle.ev_script.proofs.Painting.{none_refused}
 use Rattle.ev_script.proofs.act.of_picture.Goals as goal
 

@@ -1,7 +1,7 @@
 use Rattle.std.proofs.Common.{length, get_or, None, arith}
 use Rattle.std.proofs.lemmas.List.FromFn.{fill_by_all}
 use Rattle.ev_argb.specs.Argb.{clear}
-use Rattle.ev_script.specs.Places.{unhidden}
+use Rattle.ev_script.specs.Dumps.{unhidden}
 use Rattle.ev_script.proofs.picture.hide.Goals as goal
 
 pub returns : goal.returns

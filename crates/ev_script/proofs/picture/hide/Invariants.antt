@@ -1,6 +1,6 @@
 use Rattle.std.proofs.Common.{◌≡◌, ◌<◌, ℕ, length, get_or, None}
 use Rattle.ev_argb.specs.Argb.{clear}
-use Rattle.ev_script.specs.Places.{unhidden}
+use Rattle.ev_script.specs.Dumps.{unhidden}
 use Rattle.ev_script.proofs.picture.hide.Given as goal
 
 abbrev pub invariant-loop-x : goal.invariant-loop-x

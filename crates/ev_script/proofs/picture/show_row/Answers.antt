@@ -1,5 +1,5 @@
 use Rattle.std.proofs.Common.{ap, ◌∙◌}
-use Rattle.ev_script.specs.Places.{unhidden_row}
+use Rattle.ev_script.specs.Dumps.{unhidden_row}
 use Rattle.ev_script.proofs.Painting.{row_places}
 use Rattle.ev_script.proofs.picture.show_row.Goals as goal
 

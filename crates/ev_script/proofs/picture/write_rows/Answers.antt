@@ -3,7 +3,7 @@ use Rattle.ev_argb.specs.Argb.{Argb}
 use Rattle.ev_port.specs.Told.{GrowsBy, GrowsPart}
 use Rattle.ev_model.specs.Answer.{Answer, DumpRow}
 use Rattle.ev_model.specs.Text.{reply_text}
-use Rattle.ev_script.specs.Places.{place_row}
+use Rattle.ev_script.specs.Dumps.{place_row}
 use Rattle.ev_script.proofs.Pieces.{on_err_always, replies_more, replies_cut}
 use Rattle.ev_script.proofs.picture.write_rows.Goals as goal
 

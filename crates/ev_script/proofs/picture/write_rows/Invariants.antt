@@ -3,7 +3,7 @@ use Rattle.std.specs.List.{range_with_len}
 use Rattle.ev_port.specs.Told.{GrowsBy}
 use Rattle.ev_model.specs.Answer.{DumpRow}
 use Rattle.ev_model.specs.Text.{text}
-use Rattle.ev_script.specs.Places.{place_row}
+use Rattle.ev_script.specs.Dumps.{place_row}
 use Rattle.ev_script.proofs.picture.write_rows.Given as goal
 
 abbrev pub invariant-loop-y : goal.invariant-loop-y

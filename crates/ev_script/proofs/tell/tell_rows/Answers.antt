@@ -1,6 +1,6 @@
 use Rattle.std.proofs.Common.{◌≡◌, ap, ◌∙◌}
-use Rattle.ev_canvas.specs.Machine.{rows}
-use Rattle.ev_script.specs.Told.{of_drawn}
+use Rattle.ev_canvas.specs.Turns.{rows}
+use Rattle.ev_script.specs.LineReplies.{of_drawn}
 use Rattle.ev_script.proofs.Pieces.{retold, untold}
 use Rattle.ev_script.proofs.Painting.{picture_rows, same_rows, drawn_is, none_drawn}
 use Rattle.ev_script.proofs.tell.tell_rows.Goals as goal

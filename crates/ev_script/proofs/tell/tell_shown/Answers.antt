@@ -1,6 +1,6 @@
 use Rattle.std.proofs.Common.{◌≡◌, [], ◌∷◌, ap, ap₂, ◌∙◌}
 use Rattle.ev_model.specs.Answer.{Shown}
-use Rattle.ev_script.specs.Told.{of_drawn, shown_frame}
+use Rattle.ev_script.specs.LineReplies.{of_drawn, shown_frame}
 use Rattle.ev_script.proofs.Pieces.{retold, untold}
 use Rattle.ev_script.proofs.Painting.{drawn_is, none_drawn}
 use Rattle.ev_script.proofs.tell.tell_shown.Goals as goal

@@ -1,8 +1,8 @@
 use Rattle.std.proofs.Common.{◌≡◌, [], ◌∷◌, ap, ◌∙◌}
-use Rattle.ev_canvas.specs.Machine.{sums}
+use Rattle.ev_canvas.specs.Turns.{sums}
 use Rattle.ev_canvas.specs.Totals.{totals}
-use Rattle.ev_script.specs.Places.{places}
-use Rattle.ev_script.specs.Told.{of_drawn}
+use Rattle.ev_script.specs.Dumps.{places}
+use Rattle.ev_script.specs.LineReplies.{of_drawn}
 use Rattle.ev_script.proofs.Pieces.{retold, untold}
 use Rattle.ev_script.proofs.Painting.{same_sums, drawn_is, none_drawn}
 use Rattle.ev_script.proofs.tell.tell_totals.Goals as goal

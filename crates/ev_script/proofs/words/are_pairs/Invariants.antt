@@ -1,6 +1,6 @@
 use Rattle.std.proofs.Common.{◌≡◌, length}
 use Rattle.ev_script.specs.Status.{texts}
-use Rattle.ev_script.specs.Words.{are_pairs}
+use Rattle.ev_script.specs.Options.{are_pairs}
 use Rattle.ev_script.proofs.words.are_pairs.Given as goal
 
 -- the words that are left are pairs exactly where all are

@@ -1,6 +1,6 @@
 use Rattle.std.proofs.Common.{◌≡◌, length}
 use Rattle.ev_script.specs.Status.{texts}
-use Rattle.ev_script.specs.Words.{value_of}
+use Rattle.ev_script.specs.Options.{value_of}
 use Rattle.ev_script.proofs.words.value_of.Given as goal
 
 -- the value stands among the words that are left

@@ -1,7 +1,7 @@
 use Rattle.std.proofs.Common.{◌≡◌, [], Bool, Err, subst, ap, sym, refl, ◌∙◌}
 use Rattle.ev_model.specs.declared.refusal.Refusal.TheVariants.{Loading}
 use Rattle.ev_scene.specs.Board.{board}
-use Rattle.ev_canvas.specs.Calls.{MayEdit}
+use Rattle.ev_canvas.specs.CanvasCalls.{MayEdit}
 use Rattle.ev_canvas.specs.Canvas.{Canvas, now_of, frames_of}
 use Rattle.ev_canvas.specs.Now.{Now}
 use Rattle.ev_canvas.specs.Loading.{EditsUnless}

@@ -2,8 +2,8 @@ use Rattle.std.proofs.Common.{◌≡◌, Ok, ap, sym, subst, ◌∙◌}
 use Rattle.ev_model.specs.Capture.{capture_of}
 use Rattle.ev_model.specs.Stage.{stage}
 use Rattle.ev_scene.specs.Board.{Kept}
-use Rattle.ev_canvas.specs.Frames.{runs}
-use Rattle.ev_canvas.specs.Calls.{MayStart}
+use Rattle.ev_canvas.specs.CanvasFrames.{runs}
+use Rattle.ev_canvas.specs.CanvasCalls.{MayStart}
 use Rattle.ev_canvas.specs.Canvas.{Canvas, now_of, frames_of}
 use Rattle.ev_canvas.proofs.Starting.{started}
 use Rattle.ev_canvas.proofs.canvas.Canvas.start.Goals as goal

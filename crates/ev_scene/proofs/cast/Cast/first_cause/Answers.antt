@@ -1,6 +1,6 @@
 use Rattle.std.proofs.Common.{FitsSigned, w64, ◌∙◌, sym, rules, option_to_list}
 use Rattle.std.proofs.Math.Bool.{true≢false}
-use Rattle.ev_scene.specs.Slots.{of_id}
+use Rattle.ev_scene.specs.Ids.{of_id}
 use Rattle.ev_scene.specs.Board.{values_of}
 use Rattle.ev_scene.proofs.Refusing.{told_may, told_below, all_below, may_next, refused_range, refused_memory}
 use Rattle.ev_scene.proofs.cast.Cast.first_cause.Goals as goal

@@ -2,7 +2,7 @@ use Rattle.std.proofs.Common.{◌≡◌, ℕ, ◌<◌, ◌++◌, filter_map, dro
 use Rattle.ev_model.specs.Stage.{values}
 use Rattle.ev_stack.specs.Order.{IsOrder}
 use Rattle.ev_groups.specs.Groups.{group}
-use Rattle.ev_scene.specs.Slots.{of_id}
+use Rattle.ev_scene.specs.Ids.{of_id}
 use Rattle.ev_scene.specs.Board.{values_of}
 use Rattle.ev_scene.proofs.cast.Cast.shares.Given as goal
 

@@ -1,7 +1,7 @@
 use Rattle.std.proofs.Common.{◌≡◌, to_z, map, filter_map, FitsSigned, w64, refl, ap, ◌∙◌, sym, rules, subst, All}
 use Rattle.std.proofs.lemmas.Int.{to_z-of_z}
 use Rattle.std.specs.List.{list_all}
-use Rattle.ev_scene.specs.Slots.{of_id, value_of}
+use Rattle.ev_scene.specs.Ids.{of_id, value_of}
 use Rattle.ev_scene.specs.Board.{values_of}
 use Rattle.ev_scene.specs.Roll.{IsStateOf}
 use Rattle.ev_scene.specs.Edits.{may_shift, shifted_by}

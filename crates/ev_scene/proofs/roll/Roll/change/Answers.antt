@@ -1,6 +1,6 @@
 use Rattle.std.proofs.Common.{◌≡◌, Result, Ok, Err, OnErr, true, is_some, ap, sym, subst, ◌∙◌}
 use Rattle.std.proofs.Math.Bool.{true≢false}
-use Rattle.ev_scene.specs.Slots.{of_id}
+use Rattle.ev_scene.specs.Ids.{of_id}
 use Rattle.ev_scene.specs.Change.{apply}
 use Rattle.ev_scene.specs.Roll.{IsRoll}
 use Rattle.ev_scene.proofs.Places.{put_same}

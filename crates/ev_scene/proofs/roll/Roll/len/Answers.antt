@@ -1,5 +1,5 @@
 use Rattle.std.proofs.Common.{length, sym, ap, ◌∙◌}
-use Rattle.ev_scene.specs.Slots.{live, value_of}
+use Rattle.ev_scene.specs.Ids.{live, value_of}
 use Rattle.ev_scene.specs.Board.{values_of}
 use Rattle.ev_scene.proofs.Places.{live_map}
 use Rattle.ev_scene.proofs.roll.Roll.len.Goals as goal

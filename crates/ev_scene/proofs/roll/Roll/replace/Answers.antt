@@ -1,5 +1,5 @@
 use Rattle.std.proofs.Common.{ℕ, Some, ap, sym, subst}
-use Rattle.ev_scene.specs.Slots.{put}
+use Rattle.ev_scene.specs.Ids.{put}
 use Rattle.ev_scene.specs.Roll.{IsRoll}
 use Rattle.ev_scene.proofs.Finding.{replaced_at}
 use Rattle.ev_scene.proofs.roll.Roll.replace.Goals as goal

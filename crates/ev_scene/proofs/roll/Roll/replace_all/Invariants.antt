@@ -1,5 +1,5 @@
 use Rattle.std.proofs.Common.{◌≡◌, length, All, map}
-use Rattle.ev_scene.specs.Slots.{spread, value_of}
+use Rattle.ev_scene.specs.Ids.{spread, value_of}
 use Rattle.ev_scene.specs.Roll.{IsStateOf}
 use Rattle.ev_scene.specs.Board.{values_of}
 use Rattle.ev_scene.proofs.roll.Roll.replace_all.Given as goal

@@ -3,7 +3,7 @@ use Rattle.std.specs.Option.{option_map}
 use Rattle.std.proofs.lemmas.Option.{none-some}
 use Rattle.ev_state.specs.Held.{Held}
 use Rattle.ev_model.specs.declared.object.Object.{Object}
-use Rattle.ev_scene.specs.Slots.{of_id, put, value_of}
+use Rattle.ev_scene.specs.Ids.{of_id, put, value_of}
 use Rattle.ev_scene.specs.Board.{values_of}
 use Rattle.ev_scene.specs.Roll.{id_in, IsRoll}
 use Rattle.ev_scene.proofs.Places.{of_id_map}

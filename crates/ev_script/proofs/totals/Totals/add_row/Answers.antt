@@ -1,5 +1,5 @@
 use Rattle.std.proofs.Common.{ap₂, ◌∙◌, arith}
-use Rattle.ev_script.specs.Totals.{with_place}
+use Rattle.ev_script.specs.PixelTotals.{with_place}
 use Rattle.ev_script.proofs.Counting.{counted_more}
 use Rattle.ev_script.proofs.totals.Totals.add_row.Goals as goal
 

@@ -1,5 +1,5 @@
 use Rattle.std.proofs.Common.{◌≡◌, ◌+◌, fold, take}
-use Rattle.ev_script.specs.Totals.{with_place}
+use Rattle.ev_script.specs.PixelTotals.{with_place}
 use Rattle.ev_script.proofs.totals.Totals.add_row.Given as goal
 
 abbrev pub invariant-loop-pixel : goal.invariant-loop-pixel

@@ -2,8 +2,8 @@ use Rattle.std.proofs.Common.{◌≡◌, ◌+◌, fold, length, ap, ◌∙◌, a
 use Rattle.std.specs.List.{flat_map, range_with_len}
 use Rattle.std.proofs.lemmas.List.FromFn.{length-map-range_with_len}
 use Rattle.ev_argb.specs.Grid.{pixel_at}
-use Rattle.ev_script.specs.Places.{unhidden, place_row}
-use Rattle.ev_script.specs.Totals.{Counts, with_place, none, told}
+use Rattle.ev_script.specs.Dumps.{unhidden, place_row}
+use Rattle.ev_script.specs.PixelTotals.{Counts, with_place, none, told}
 use Rattle.ev_script.proofs.Counting.{counts, counted_row, tells_all}
 use Rattle.ev_script.proofs.totals.Totals.of.Goals as goal
 

@@ -1,7 +1,7 @@
 use Rattle.std.proofs.Common.{◌≡◌, ◌*◌, fold}
 use Rattle.std.specs.List.{flat_map, range_with_len}
-use Rattle.ev_script.specs.Places.{place_row}
-use Rattle.ev_script.specs.Totals.{none, with_place}
+use Rattle.ev_script.specs.Dumps.{place_row}
+use Rattle.ev_script.specs.PixelTotals.{none, with_place}
 use Rattle.ev_script.proofs.totals.Totals.of.Given as goal
 
 abbrev pub invariant-loop-y : goal.invariant-loop-y

@@ -12,10 +12,10 @@ use Rattle.ev_preload.specs.Ends.{EndsBy, IsOfKind}
 use Rattle.ev_preload.specs.Job.{Job}
 use Rattle.ev_preload.specs.declared.end.LoadEnd.{LoadEnd}
 use Rattle.ev_canvas.specs.Starts.{Entry, Latest, is_running}
-use Rattle.ev_canvas.specs.Frames.{fresh}
+use Rattle.ev_canvas.specs.CanvasFrames.{fresh}
 use Rattle.ev_canvas.specs.Events.{told_event}
 use Rattle.ev_canvas.specs.Now.{Now}
-use Rattle.ev_canvas.specs.Calls.{MayStart, MayFlush, MayPreload, MayCollect, held}
+use Rattle.ev_canvas.specs.CanvasCalls.{MayStart, MayFlush, MayPreload, MayCollect, held}
 use Rattle.ev_canvas.specs.Totals.{totals}
 use Rattle.ev_canvas.specs.declared.canvas.Setup.{Setup}
 use Rattle.ev_canvas.specs.declared.event.Event.{Event}

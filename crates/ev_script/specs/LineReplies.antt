@@ -5,7 +5,7 @@ use Rattle.ev_model.specs.declared.refusal.Refusal.{Refusal}
 use Rattle.ev_model.specs.declared.refusal.Refusal.TheVariants.{Busy, NoFrame}
 use Rattle.ev_canvas.specs.Canvas.{Canvas}
 use Rattle.ev_canvas.specs.Events.{told_event}
-use Rattle.ev_canvas.specs.Machine.{rows, sums}
+use Rattle.ev_canvas.specs.Turns.{rows, sums}
 use Rattle.ev_canvas.specs.Starts.{Entry, Latest, is_running}
 use Rattle.ev_canvas.specs.declared.flush.Flushed.{Flushed}
 use Rattle.ev_canvas.specs.declared.flush.Flushed.TheVariants as flushed

@@ -4,7 +4,7 @@ use Rattle.ev_model.specs.Glyphs.{Glyphs}
 use Rattle.ev_model.specs.Raster.{Raster}
 use Rattle.ev_model.specs.declared.content.Content.{Content}
 use Rattle.ev_model.specs.declared.content.Content.TheVariants as content
-use Rattle.ev_scene.specs.Slots.{of_id, put}
+use Rattle.ev_scene.specs.Ids.{of_id, put}
 use Rattle.ev_scene.specs.Board.{Board}
 use Rattle.ev_scene.specs.Change.{apply}
 use Rattle.ev_scene.specs.declared.drawing.Drawing.TheVariants as drawing

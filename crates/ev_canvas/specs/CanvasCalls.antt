@@ -8,7 +8,7 @@ use Rattle.ev_preload.specs.Job.{Job}
 use Rattle.ev_preload.specs.Loads.{after_begin, after_hold, after_collect, collected}
 use Rattle.ev_preload.specs.declared.end.LoadEnd.{LoadEnd}
 use Rattle.ev_scene.specs.Board.{stage_of}
-use Rattle.ev_canvas.specs.Frames.{AddsRect, IsStarted, runs, ended, end_of}
+use Rattle.ev_canvas.specs.CanvasFrames.{AddsRect, IsStarted, runs, ended, end_of}
 use Rattle.ev_canvas.specs.Loading.{EditsUnless, Collects, is_waiting, kept, gone, asked, stopped, after_stop}
 use Rattle.ev_canvas.specs.Now.{Now}
 use Rattle.ev_canvas.specs.declared.event.Event.{Event}

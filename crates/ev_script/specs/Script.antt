@@ -4,7 +4,7 @@ use Rattle.ev_model.specs.Answer.{Answer, Lost, PreloadFailed, Bad}
 use Rattle.ev_model.specs.declared.refusal.LoadFault.TheVariants as load
 use Rattle.ev_lang.specs.declared.line.Line.{Line}
 use Rattle.ev_lang.specs.declared.line.Line.TheVariants as line
-use Rattle.ev_canvas.specs.Machine.{Setting, State, Turn, stays}
+use Rattle.ev_canvas.specs.Turns.{Setting, State, Turn, stays}
 use Rattle.ev_canvas.specs.Commands.{Commanded}
 
 -- how many frames a reply tells as lost
