@@ -14,7 +14,7 @@ use Rattle.ev_model.specs.declared.content.Kind.{Kind}
 use Rattle.ev_model.specs.declared.object.Object.{Object}
 use Rattle.ev_model.specs.declared.refusal.Refusal.{Refusal}
 use Rattle.ev_links.specs.Ties.{has}
-use Rattle.ev_scene.specs.Ids.{of_id, live}
+use Rattle.ev_scene.specs.Ids.{of_id, put, live}
 use Rattle.ev_scene.specs.Board.{Board, Kept, board, named, inside, is_named}
 use Rattle.ev_scene.specs.Cast.{IsCast, kept_of, board_of}
 use Rattle.ev_scene.specs.Change.{apply, fresh, color_of, fill_of, border_of}
@@ -52,13 +52,16 @@ found_at test (Some x ∷ slots) o e = go (test x) e (found_at test slots o) whe
 pub named_own : (objects : List (Option Object)) → ((id : ℕ) (o : Object) → of_id objects id ≡ Some o → o.id ≡ id) → (name : List ℕ) (o : Object) → named objects name ≡ Some o → of_id objects o.id ≡ Some o
 named_own objects own name o e = let found = found_at (is_named name) objects o e in stands_at objects own found.0 o found.1
 
+-- an object that is changed where it stands keeps its kind
+pub keeps_put : (scene : Board) (c : Change) (id : ℕ) (o : Object) → of_id scene.objects id ≡ Some o → KeepsKinds scene (record scene { objects = put scene.objects id (Some (apply c o)) })
+keeps_put scene c id o at other kind is = ap kind_in (of_id_put scene.objects id other o (Some (apply c o)) at) ∙ elim (eqb_tells other id) [
+  | inl same ↦ rw same.0 (ap Some (change_kind c o) ∙ sym (ap kind_in at) ∙ ap (kind_at scene) (sym same.1) ∙ is)
+  | inr differ ↦ rw differ.0 is
+]
+
 module _ (scene : Board) (own : (name : List ℕ) (o : Object) → named scene.objects name ≡ Some o → of_id scene.objects o.id ≡ Some o) where
-  -- an object that is changed where it stands keeps its kind
   keeps_changed : (c : Change) (o : Object) → of_id scene.objects o.id ≡ Some o → KeepsKinds scene (changed c scene o)
-  keeps_changed c o at other kind is = ap kind_in (of_id_put scene.objects o.id other o (Some (apply c o)) at) ∙ elim (eqb_tells other o.id) [
-    | inl same ↦ rw same.0 (ap Some (change_kind c o) ∙ sym (ap kind_in at) ∙ ap (kind_at scene) (sym same.1) ∙ is)
-    | inr differ ↦ rw differ.0 is
-  ]
+  keeps_changed c o at = keeps_put scene c o.id o at
 
   keeps_named : (name : List ℕ) (make : Object → Board) → ((o : Object) → of_id scene.objects o.id ≡ Some o → KeepsKinds scene (make o)) → KeepsKinds scene (with_named scene name make)
   keeps_named name make each = go (named scene.objects name) (own name) where
