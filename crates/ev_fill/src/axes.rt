@@ -6,7 +6,8 @@ ghost use Rattle.ev_model.specs.Limits.{IsFill};
 use ev_model::{Axis, Image, ImagePart};
 
 /// The row of an image that a row of an object shows, and whether it is shown without what lies
-/// between the borders of its columns. Rows of an object that show the same have the same samples.
+/// between the borders of its columns. Rows of an object that show the same have the same samples
+/// (docs/CANVAS.md, "Samples").
 #[derive(Clone, Copy, PartialEq, Eq)]
 pub struct ShownRow {
     pub(crate) y: u32,

@@ -58,7 +58,8 @@ pub fn pixel_row(part: &ImagePart, w: u32, h: u32, i: u32, j: u32, into: &mut [P
     }
 }
 
-/// What row j of an image object of h rows shows of its image. None where it shows nothing.
+/// What row j of an image object, h pixels high, shows of its image. None where it shows nothing
+/// (docs/CANVAS.md, "Samples").
 pub fn shown_row(part: &ImagePart, h: u32, j: u32) -> Option<ShownRow>
     requires fill { IsFill part.now.fill }
     requires height { h ≤ 1000000 }
@@ -72,7 +73,8 @@ pub fn shown_row(part: &ImagePart, h: u32, j: u32) -> Option<ShownRow>
     }
 }
 
-/// As `pixel_row`, for each row of an image object of w columns that shows this.
+/// As `pixel_row`, for each row of an image object, w pixels wide, that shows this: place k of `into`
+/// becomes the sample at column i + k, or `00000000` where that is nothing (docs/CANVAS.md, "Samples").
 pub fn shown_pixels(part: &ImagePart, w: u32, i: u32, shown: Option<ShownRow>, into: &mut [Pixel])
     requires fill { IsFill part.now.fill }
     requires width { w ≤ 1000000 }

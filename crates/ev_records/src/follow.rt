@@ -11,7 +11,8 @@ impl Ranks {
     /// Gives places other numbers where they need them, so that the numbers rise along this order. A
     /// place keeps its number if that is above those of all places before it; so one that has the
     /// number 0 gets another. Where no number is left, all places get new ones. `NoMemory`: then the
-    /// numbers at the start before are as they were, and those now may be any.
+    /// numbers at the start before are as they were, and those now may be any (docs/ARCHITECTURE.md,
+    /// "Records").
     pub fn follow(&mut self, order: &[usize]) -> Result<(), NoMemory>
         requires there { All (λ place. place < length self.old.stands) order.now }
         requires apart { AllPairs (λ i j. i ≢ j) order.now }
