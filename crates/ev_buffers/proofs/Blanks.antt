@@ -4,7 +4,7 @@ use Rattle.std.proofs.lemmas.List.Folds.{sum_by-replicate}
 use Rattle.ev_argb.specs.Grid.{Grid, blank_grid}
 use Rattle.ev_argb.proofs.Sums.{blank_painted}
 use Rattle.ev_argb.proofs.Blanks.{blank_picture, blank_whole}
-use Rattle.ev_buffers.specs.Chain.{FitsChain, IsLine, is_out, last_picture, painted_at_home}
+use Rattle.ev_buffers.specs.BufferChain.{FitsChain, IsLine, is_out, last_picture, painted_at_home}
 
 pub blank_fits : (w h : ℕ) → 1 ≤ w → w ≤ 4096 → 1 ≤ h → h ≤ 4096 → FitsChain w h (blank_grid w h)
 blank_fits w h wl wh hl hh =

@@ -8,7 +8,7 @@ use Rattle.ev_geom.specs.Area.{Area}
 use Rattle.ev_geom.specs.Bands.{has_pixel}
 use Rattle.ev_buffers.specs.declared.mark.Mark.{Mark}
 use Rattle.ev_buffers.specs.Marks.{is_unused, IsStaleSince}
-use Rattle.ev_buffers.specs.Chain.{Chain, last_picture, last_updates, once_drawn, drawn, FitsChain, IsAtHome, IsLine, IsChain}
+use Rattle.ev_buffers.specs.BufferChain.{Chain, last_picture, last_updates, once_drawn, drawn, FitsChain, IsAtHome, IsLine, IsChain}
 use Rattle.ev_buffers.specs.Kept.{Shows, ShowsAtHome, AllShow, ShowsLast}
 use Rattle.ev_buffers.proofs.Lines.{last_picture_at, last_updates_at}
 

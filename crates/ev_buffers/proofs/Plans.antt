@@ -6,7 +6,7 @@ use Rattle.ev_geom.specs.Bands.{has_pixel, IsBandsOf}
 use Rattle.ev_geom.specs.Tiles.{jobs_of}
 use Rattle.ev_buffers.specs.declared.mark.Mark.{Mark}
 use Rattle.ev_buffers.specs.Marks.{IsNextOf}
-use Rattle.ev_buffers.specs.Chain.{Chain, Draft, IsPlanOf, next_stale}
+use Rattle.ev_buffers.specs.BufferChain.{Chain, Draft, IsPlanOf, next_stale}
 
 -- the first mark is the next buffer's
 next_stale_at : (marks : List Mark) (d : Mark) → 1 ≤ length marks → next_stale marks ≡ (get_or marks 0 d).stale

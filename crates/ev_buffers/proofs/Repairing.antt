@@ -6,7 +6,7 @@ use Rattle.ev_geom.specs.Area.{Area}
 use Rattle.ev_geom.specs.Bands.{has_pixel}
 use Rattle.ev_buffers.specs.declared.mark.Mark.{Mark}
 use Rattle.ev_buffers.specs.Marks.{is_unused, updated, in_picture, IsStaleSince}
-use Rattle.ev_buffers.specs.Chain.{Chain, Draft, IsChain, IsPlanOf, to_draw}
+use Rattle.ev_buffers.specs.BufferChain.{Chain, Draft, IsChain, IsPlanOf, to_draw}
 use Rattle.ev_buffers.specs.Kept.{IsCovered, Follows, Repairs}
 
 and_false : (a : Bool) → (a && false) ≡ false

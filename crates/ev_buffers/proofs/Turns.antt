@@ -6,7 +6,7 @@ use Rattle.ev_geom.specs.Area.{Area}
 use Rattle.ev_geom.specs.Bands.{has_pixel, IsBandsOf}
 use Rattle.ev_buffers.specs.declared.mark.Mark.{Mark}
 use Rattle.ev_buffers.specs.Marks.{has_pixel_in, is_unused, updated, in_picture, IsStaleSince, IsJoined, IsNextOf}
-use Rattle.ev_buffers.specs.Chain.{to_draw, next_picture, AreUnused}
+use Rattle.ev_buffers.specs.BufferChain.{to_draw, next_picture, AreUnused}
 use Rattle.ev_buffers.specs.Kept.{Shows, ShowsDone, ShowsAtHome, AllShow, IsCovered, Follows, everywhere}
 
 or_assoc : (a b c : Bool) → ((a || b) || c) ≡ (a || (b || c))

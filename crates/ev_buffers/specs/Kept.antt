@@ -9,7 +9,7 @@ use Rattle.ev_geom.specs.Bands.{has_pixel}
 use Rattle.ev_geom.specs.Tiles.{jobs_of}
 use Rattle.ev_buffers.specs.declared.mark.Mark.{Mark}
 use Rattle.ev_buffers.specs.Marks.{updated, is_unused, in_picture}
-use Rattle.ev_buffers.specs.Chain.{Chain, Draft, Lent, is_lent, painted_on_all, IsPlanOf, AreUnused}
+use Rattle.ev_buffers.specs.BufferChain.{Chain, Draft, Lent, is_lent, painted_on_all, IsPlanOf, AreUnused}
 
 -- whether a plane is at home
 abbrev pub is_there : Option Tile → Bool

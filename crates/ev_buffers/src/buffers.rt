@@ -25,7 +25,7 @@ pub struct Buffers {
 }
 
 impl Model for Buffers {
-    ghost use Rattle.ev_buffers.specs.Chain.{Chain, IsChain};
+    ghost use Rattle.ev_buffers.specs.BufferChain.{Chain, IsChain};
 
     ghost Value = { Chain };
 
@@ -35,7 +35,7 @@ impl Model for Buffers {
 }
 
 impl Buffers {
-    ghost use Rattle.ev_buffers.specs.Chain.{is_lent, drawn, next_picture, painted_on_all, FitsChain, IsPlanOf, IsPlanned, lent_by, given_back};
+    ghost use Rattle.ev_buffers.specs.BufferChain.{is_lent, drawn, next_picture, painted_on_all, FitsChain, IsPlanOf, IsPlanned, lent_by, given_back};
     ghost use Rattle.ev_buffers.specs.Kept.{IsNew, Repairs, ShowsLast, KeepsByLending, KeepsByReturn, KeepsWhenDone};
 
     /// From 1 to 3 buffers with clear pictures of w by h pixels, from 1 to 4096 each way. All of each

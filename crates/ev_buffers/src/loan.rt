@@ -15,7 +15,7 @@ pub struct Loan {
 }
 
 impl Model for Loan {
-    ghost use Rattle.ev_buffers.specs.Chain.{Lent, IsLoan};
+    ghost use Rattle.ev_buffers.specs.BufferChain.{Lent, IsLoan};
 
     ghost Value = { Lent };
 

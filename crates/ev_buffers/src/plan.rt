@@ -15,7 +15,7 @@ pub struct Plan {
 }
 
 impl Model for Plan {
-    ghost use Rattle.ev_buffers.specs.Chain.{Draft};
+    ghost use Rattle.ev_buffers.specs.BufferChain.{Draft};
 
     ghost Value = { Draft };
 

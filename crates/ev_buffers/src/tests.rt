@@ -1,6 +1,6 @@
 // Frames on two buffers, against the areas that have to be drawn.
 ghost use Rattle.std.specs.Prelude.{◌≡◌, false};
-ghost use Rattle.ev_buffers.specs.Chain.{is_lent};
+ghost use Rattle.ev_buffers.specs.BufferChain.{is_lent};
 
 use crate::{Buffers, NoMemory};
 use ev_geom::Rect;

@@ -4,8 +4,8 @@ use Rattle.std.proofs.lemmas.List.Folds.{list_any_at, list_any_more, list_any-ap
 use Rattle.ev_geom.specs.Area.{Area, holds}
 use Rattle.ev_geom.specs.Bands.{has_pixel}
 use Rattle.ev_areas.specs.Edges.{has_pixel_at, AreEdgesOf}
-use Rattle.ev_cmds.specs.Parts.{IsPatchOn, IsPartOn, any_has}
-use Rattle.ev_cmds.specs.Jobs.{HasNone, HasOne}
+use Rattle.ev_cmds.specs.SeenEdges.{IsPatchOn, IsPartOn, any_has}
+use Rattle.ev_cmds.specs.TileJobs.{HasNone, HasOne}
 use Rattle.ev_cmds.specs.Masks.{has_bit, Adds}
 use Rattle.ev_areas.specs.declared.edges.Edges.{Edges}
 use Rattle.ev_cmds.specs.declared.patch.Patch.{Patch}

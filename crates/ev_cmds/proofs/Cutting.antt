@@ -12,7 +12,7 @@ use Rattle.ev_model.specs.Look.{Look, look_of}
 use Rattle.ev_model.specs.declared.scene.Record.{Record}
 use Rattle.ev_cmds.specs.Cuts.{Cut, IsCut, IsCutOf, IsJobOn, PaintsAll}
 use Rattle.ev_cmds.specs.Frames.{IsOpened, Takes, HasTaken}
-use Rattle.ev_cmds.specs.Jobs.{IsTileOf}
+use Rattle.ev_cmds.specs.TileJobs.{IsTileOf}
 use Rattle.ev_cmds.specs.Masks.{has_bit}
 use Rattle.ev_cmds.specs.Opaque.{is_hidden}
 use Rattle.ev_cmds.specs.Sheets.{LiesOn}

@@ -13,9 +13,9 @@ use Rattle.ev_geom.specs.Tiles.{tiles_along, holds_tile}
 use Rattle.ev_geom.proofs.Tilings.{held, holds, kept_tile, left_tile}
 use Rattle.ev_region.specs.Count.{LiesWithin}
 use Rattle.ev_areas.specs.Edges.{has_pixel_at}
-use Rattle.ev_cmds.specs.Parts.{any_has}
+use Rattle.ev_cmds.specs.SeenEdges.{any_has}
 use Rattle.ev_cmds.specs.Frames.{IsSized, IsClosed, IsLike, AreOpen, PushesJob, OpensTile, OpensRow, IsOpened}
-use Rattle.ev_cmds.specs.Jobs.{HasNone, HasOne, IsTileOf, IsTable, tiles_of}
+use Rattle.ev_cmds.specs.TileJobs.{HasNone, HasOne, IsTileOf, IsTable, tiles_of}
 use Rattle.ev_cmds.specs.Masks.{has_bit}
 use Rattle.ev_cmds.specs.Sheets.{Shows, Fits, put_all, layers}
 use Rattle.ev_areas.specs.declared.edges.Edges.{Edges}

@@ -12,7 +12,7 @@ use Rattle.ev_model.specs.Look.{Look, look_of}
 use Rattle.ev_model.specs.declared.scene.Record.{Record}
 use Rattle.ev_areas.specs.Edges.{has_pixel_at, meet, AreEdgesOf}
 use Rattle.ev_cmds.specs.Patches.{lies}
-use Rattle.ev_cmds.specs.Jobs.{IsTileOf, IsTable, IsTaken, TakesIn, Clips, Bounds, Moves, MovesTile, TakesAll, tiles_of, taken_where, waits_from, waits_in}
+use Rattle.ev_cmds.specs.TileJobs.{IsTileOf, IsTable, IsTaken, TakesIn, Clips, Bounds, Moves, MovesTile, TakesAll, tiles_of, taken_where, waits_from, waits_in}
 use Rattle.ev_cmds.specs.Sheets.{IsPaintable}
 use Rattle.ev_areas.specs.declared.edges.Edges.{Edges}
 use Rattle.ev_cmds.specs.declared.table.Table.{Table}

@@ -2,7 +2,7 @@
 use Rattle.std.proofs.Common.{ℕ, ◌≡◌, ◌+◌, ◌-◌, ◌<◌, ◌≤◌, min, max, Bool, true, false, ◌&&◌, None, refl, sym, ap, ap₂, ◌∙◌, ⊎_elim, ◌⊎◌, inl, inr, arith}
 use Rattle.std.proofs.lemmas.Bool.{cases_lt}
 use Rattle.ev_areas.specs.Edges.{has_pixel_at, meet}
-use Rattle.ev_cmds.specs.Parts.{IsPatchOn, IsPartOn}
+use Rattle.ev_cmds.specs.SeenEdges.{IsPatchOn, IsPartOn}
 use Rattle.ev_areas.specs.declared.edges.Edges.{Edges}
 use Rattle.ev_cmds.specs.declared.patch.Patch.{Patch}
 use Rattle.ev_cmds.specs.Patches.{lies}

@@ -7,8 +7,8 @@ use Rattle.ev_geom.specs.Tiles.{tiles_along}
 use Rattle.ev_model.specs.Look.{Look, look_of}
 use Rattle.ev_model.specs.declared.scene.Record.{Record}
 use Rattle.ev_areas.specs.Edges.{has_pixel_at}
-use Rattle.ev_cmds.specs.Parts.{IsPatchOn, IsPartOn}
-use Rattle.ev_cmds.specs.Jobs.{IsPlaced, IsTileOf, IsTaken, TakesIn, Clips}
+use Rattle.ev_cmds.specs.SeenEdges.{IsPatchOn, IsPartOn}
+use Rattle.ev_cmds.specs.TileJobs.{IsPlaced, IsTileOf, IsTaken, TakesIn, Clips}
 use Rattle.ev_cmds.specs.Masks.{has_bit}
 use Rattle.ev_cmds.specs.Opaque.{replaces}
 use Rattle.ev_cmds.specs.Patches.{lies, has_place, one}

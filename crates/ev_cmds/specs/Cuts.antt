@@ -7,7 +7,7 @@ use Rattle.ev_geom.specs.Tiles.{tiles_along, jobs_of}
 use Rattle.ev_model.specs.Capture.{Capture}
 use Rattle.ev_model.specs.Look.{Look}
 use Rattle.ev_model.specs.Paint.{paint}
-use Rattle.ev_cmds.specs.Jobs.{IsPlaced, tiles_of}
+use Rattle.ev_cmds.specs.TileJobs.{IsPlaced, tiles_of}
 use Rattle.ev_cmds.specs.Masks.{count_of}
 use Rattle.ev_cmds.specs.Patches.{total}
 use Rattle.ev_cmds.specs.Sheets.{Shows, IsSheetOn, put_all, patches_of}

@@ -4,8 +4,8 @@ use Rattle.std.specs.List.{filter, range_with_len, AllByRecursion}
 use Rattle.ev_geom.specs.Tiles.{tiles_along, holds_tile, jobs_of}
 use Rattle.ev_model.specs.Look.{Look}
 use Rattle.ev_model.specs.declared.scene.Record.{Record}
-use Rattle.ev_cmds.specs.Parts.{any_has}
-use Rattle.ev_cmds.specs.Jobs.{IsTileOf, AreTilesOf, IsTable, IsTableOf, Bounds, TakesAll, tiles_of}
+use Rattle.ev_cmds.specs.SeenEdges.{any_has}
+use Rattle.ev_cmds.specs.TileJobs.{IsTileOf, AreTilesOf, IsTable, IsTableOf, Bounds, TakesAll, tiles_of}
 use Rattle.ev_cmds.specs.Sheets.{IsPaintable}
 use Rattle.ev_areas.specs.declared.edges.Edges.{Edges}
 use Rattle.ev_cmds.specs.declared.frame.Frame.{Frame}

@@ -1,8 +1,8 @@
 pub mod Opaque
 pub mod Patches
 pub mod Masks
-pub mod Parts
+pub mod SeenEdges
 pub mod Sheets
-pub mod Jobs
+pub mod TileJobs
 pub mod Frames
 pub mod Cuts

@@ -6,7 +6,7 @@ ghost use Rattle.ev_region.specs.Count.{LiesWithin};
 ghost use Rattle.ev_model.specs.Capture.{IsLookOn};
 ghost use Rattle.ev_model.specs.Look.{look_of};
 ghost use Rattle.ev_cmds.specs.Frames as frames;
-ghost use Rattle.ev_cmds.specs.Jobs.{IsTableOf, tiles_of};
+ghost use Rattle.ev_cmds.specs.TileJobs.{IsTableOf, tiles_of};
 
 use crate::opening::{bare_part, edges_of, keep_near};
 use crate::table::{Table, tiles_along};

@@ -2,8 +2,8 @@
 ghost use Rattle.std.specs.Prelude.{◌≡◌, ℕ, ◌+◌, ◌*◌, ◌≤◌, ◌<◌, ℤ, pos, IfOk, OnOk};
 ghost use Rattle.ev_geom.specs.Bands.{has_pixel};
 ghost use Rattle.ev_region.specs.Count.{LiesWithin};
-ghost use Rattle.ev_cmds.specs.Jobs as jobs;
-ghost use Rattle.ev_cmds.specs.Parts as parts;
+ghost use Rattle.ev_cmds.specs.TileJobs as jobs;
+ghost use Rattle.ev_cmds.specs.SeenEdges as parts;
 
 use crate::part::{meets_rows, part_on};
 use crate::{Mask, NoMemory};

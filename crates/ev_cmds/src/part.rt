@@ -1,6 +1,6 @@
 // What a tile sees of edges.
 ghost use Rattle.std.specs.Prelude.{◌≡◌, ◌+◌, ◌≤◌, ◌<◌, nat_lt, ◌&&◌};
-ghost use Rattle.ev_cmds.specs.Parts as parts;
+ghost use Rattle.ev_cmds.specs.SeenEdges as parts;
 
 use crate::Patch;
 use ev_areas::Edges;

@@ -3,7 +3,7 @@ ghost use Rattle.std.specs.Prelude.{◌≡◌, ◌+◌, ◌*◌, ◌≤◌, ◌<
 ghost use Rattle.ev_geom.specs.Tiles.{tiles_along};
 ghost use Rattle.ev_model.specs.Capture.{IsLookOn};
 ghost use Rattle.ev_model.specs.Look.{look_of};
-ghost use Rattle.ev_cmds.specs.Jobs as drawn;
+ghost use Rattle.ev_cmds.specs.TileJobs as drawn;
 
 use crate::opaque::is_paintable;
 use crate::{NoMemory, Patch, TileCommands};

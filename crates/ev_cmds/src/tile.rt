@@ -1,6 +1,6 @@
 // What is painted on one tile, in its place.
 ghost use Rattle.std.specs.Prelude.{◌≡◌, OnOk};
-ghost use Rattle.ev_cmds.specs.Jobs as jobs;
+ghost use Rattle.ev_cmds.specs.TileJobs as jobs;
 
 use crate::part::part_on;
 use crate::{NoMemory, Patch, Sheet};

@@ -7,7 +7,7 @@ use Rattle.ev_model.specs.Look.{Look, look_of, figure}
 use Rattle.ev_model.specs.declared.scene.Record.{Record}
 use Rattle.ev_damage.specs.Same.{same_look}
 use Rattle.ev_damage.specs.Marked.{AreMarked}
-use Rattle.ev_damage.specs.Small.{IsSmall, AreComparable, DifferIn}
+use Rattle.ev_damage.specs.SmallLists.{IsSmall, AreComparable, DifferIn}
 use Rattle.ev_damage.proofs.Members.{In_any}
 use Rattle.ev_damage.proofs.Telling.{tells}
 

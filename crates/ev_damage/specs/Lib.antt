@@ -3,5 +3,5 @@ pub mod Damage
 pub mod Marked
 pub mod Stay
 pub mod Places
-pub mod Small
+pub mod SmallLists
 pub mod Step

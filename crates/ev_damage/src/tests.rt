@@ -1,6 +1,6 @@
 // What two lists of two records damage.
 ghost use Rattle.std.specs.Prelude.{◌≡◌, ◌≢◌, ◌≤◌, ◌∷◌, [], IfOk};
-ghost use Rattle.ev_damage.specs.Small.{IsSmall, AreComparable, DifferIn};
+ghost use Rattle.ev_damage.specs.SmallLists.{IsSmall, AreComparable, DifferIn};
 ghost use Rattle.ev_model.specs.Look.{look_of};
 
 use crate::{NoMemory, between, between_marked};

@@ -7,10 +7,10 @@ use Rattle.atomic_table.specs.Table.{step, keeps, takes, gives, Allows}
 use Rattle.atomic_table.proofs.Lists.{set_again, exchanged}
 use Rattle.ev_seats.specs.Jobs.{without}
 use Rattle.ev_seats.proofs.Jobs.{stays}
-use Rattle.ev_desk.specs.Tally.{IsEnd}
-use Rattle.ev_desk.specs.Steps.{spot_of, staged, looked_at, took_end, came_late}
-use Rattle.ev_desk.specs.Slots.{Slot, spread, Desk}
-use Rattle.ev_desk.specs.Moves.{counting, keeping, freeing, Sat, emptied, left, shut, looked, took, withdrawn, returned, emptied_at, left_at, shut_at, looked_at_end, took_at, withdrawn_at, returned_at, rung, counted}
+use Rattle.ev_desk.specs.DeskTally.{IsEnd}
+use Rattle.ev_desk.specs.DeskSteps.{spot_of, staged, looked_at, took_end, came_late}
+use Rattle.ev_desk.specs.DeskSlots.{Slot, spread, Desk}
+use Rattle.ev_desk.specs.DeskMoves.{counting, keeping, freeing, Sat, emptied, left, shut, looked, took, withdrawn, returned, emptied_at, left_at, shut_at, looked_at_end, took_at, withdrawn_at, returned_at, rung, counted}
 use Rattle.ev_desk.specs.declared.view.Role.TheVariants.{Asker}
 use Rattle.ev_desk.specs.declared.view.Stage.{Stage}
 use Rattle.ev_desk.specs.declared.view.Stage.TheVariants.{Free, Asked, Ended, Closed}

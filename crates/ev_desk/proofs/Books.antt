@@ -5,11 +5,11 @@ use native.Mathlib.Decide.{ℕ_discrete}
 use Rattle.ev_seats.specs.Weights.{total}
 use Rattle.ev_seats.specs.Jobs.{job_of, without, with_job, is_at}
 use Rattle.ev_seats.proofs.Jobs.{at-same, at-other, total-gone, total-stays, total-without, total-with, none_there, one_there}
-use Rattle.ev_desk.specs.Tally.{free_spot}
-use Rattle.ev_desk.specs.Steps.{spot_at}
-use Rattle.ev_desk.specs.Slots.{opening_view}
-use Rattle.ev_desk.specs.Moves.{parted}
-use Rattle.ev_desk.specs.Says.{stage_at, asked_at, saw_busy, collected, taken_back, found_late}
+use Rattle.ev_desk.specs.DeskTally.{free_spot}
+use Rattle.ev_desk.specs.DeskSteps.{spot_at}
+use Rattle.ev_desk.specs.DeskSlots.{opening_view}
+use Rattle.ev_desk.specs.DeskMoves.{parted}
+use Rattle.ev_desk.specs.DeskSays.{stage_at, asked_at, saw_busy, collected, taken_back, found_late}
 use Rattle.ev_desk.specs.Books.{jobs_at, Books, HasJobWhereAsked}
 use Rattle.ev_desk.specs.declared.view.Stage.{Stage}
 use Rattle.ev_desk.specs.declared.view.Stage.TheVariants.{Free, Asked}

@@ -3,10 +3,10 @@ use Rattle.std.proofs.Common.{◌≡◌, ℕ, zero, suc, ◌*◌, ◌<◌, ◌�
 use mathlib.Core.Option.{none}
 use Rattle.std.specs.Prelude.{Option, Some, None}
 use Rattle.atomic_table.specs.Table.{step, rest, Allows}
-use Rattle.ev_desk.specs.Tally.{IsEnd}
-use Rattle.ev_desk.specs.Steps.{spot_at, spot_of, staged, looked_at}
-use Rattle.ev_desk.specs.Slots.{Slot, place_of, end_word, carried_by, Desk}
-use Rattle.ev_desk.specs.Moves.{keeping, freeing, Sat, emptied_at, left, took, returned, ended}
+use Rattle.ev_desk.specs.DeskTally.{IsEnd}
+use Rattle.ev_desk.specs.DeskSteps.{spot_at, spot_of, staged, looked_at}
+use Rattle.ev_desk.specs.DeskSlots.{Slot, place_of, end_word, carried_by, Desk}
+use Rattle.ev_desk.specs.DeskMoves.{keeping, freeing, Sat, emptied_at, left, took, returned, ended}
 use Rattle.ev_desk.specs.declared.view.Role.TheVariants.{Asker, Loader}
 use Rattle.ev_desk.specs.declared.view.Stage.TheVariants.{Free, Asked, Ended, Closed}
 use Rattle.ev_desk.specs.declared.view.Spot.{Spot}

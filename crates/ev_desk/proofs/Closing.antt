@@ -2,9 +2,9 @@
 use Rattle.std.proofs.Common.{◌≡◌, ℕ, zero, suc, ◌+◌, ◌<◌, ◌≤◌, List, [], ◌∷◌, map, set, length, sym, refl, ap, ◌∙◌, subst, arith}
 use mathlib.Core.Logic.{dite}
 use native.Mathlib.Decide.{ℕ_discrete}
-use Rattle.ev_desk.specs.Steps.{spot_at, staged}
-use Rattle.ev_desk.specs.Moves.{counting}
-use Rattle.ev_desk.specs.Says.{stage_at, with_spots, shut_spot, shut_down}
+use Rattle.ev_desk.specs.DeskSteps.{spot_at, staged}
+use Rattle.ev_desk.specs.DeskMoves.{counting}
+use Rattle.ev_desk.specs.DeskSays.{stage_at, with_spots, shut_spot, shut_down}
 use Rattle.ev_desk.specs.Books.{jobs_at, Books}
 use Rattle.ev_desk.specs.declared.view.Stage.TheVariants.{Free, Closed}
 use Rattle.ev_desk.specs.declared.view.Spot.{Spot}

@@ -10,9 +10,9 @@ use Rattle.atomic_table.specs.Table.{State, Act, Valid, homes_after, carried_aft
 use Rattle.atomic_table.proofs.Lists.{at_map, set_else}
 use Rattle.ev_seats.proofs.Lists.{inside, set_at}
 use Rattle.ev_seats.specs.Homes.{Homes}
-use Rattle.ev_desk.specs.Tally.{Tally}
-use Rattle.ev_desk.specs.Slots.{Slot, spread, place_of, counts_of, Shelf, Desk}
-use Rattle.ev_desk.specs.Moves.{Sat}
+use Rattle.ev_desk.specs.DeskTally.{Tally}
+use Rattle.ev_desk.specs.DeskSlots.{Slot, spread, place_of, counts_of, Shelf, Desk}
+use Rattle.ev_desk.specs.DeskMoves.{Sat}
 use Rattle.ev_desk.specs.declared.view.Role.TheVariants.{Asker, Loader}
 use Rattle.ev_desk.specs.declared.view.Stage.TheVariants.{Asked}
 use Rattle.ev_desk.specs.declared.view.Spot.{Spot}

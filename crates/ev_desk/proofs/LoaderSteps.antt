@@ -7,10 +7,10 @@ use prog.Atomic.{either}
 use Rattle.atomic_table.specs.Table.{step, keeps, takes, gives, Allows}
 use Rattle.atomic_table.proofs.Lists.{at_map, set_again, exchanged}
 use Rattle.ev_seats.proofs.Lists.{inside}
-use Rattle.ev_desk.specs.Tally.{IsEnd, free_spot}
-use Rattle.ev_desk.specs.Steps.{tried, ended_with}
-use Rattle.ev_desk.specs.Slots.{Slot, counts_of, end_word, Shelf, Desk}
-use Rattle.ev_desk.specs.Moves.{counting, doing, Sat, trying, tried_at, ended}
+use Rattle.ev_desk.specs.DeskTally.{IsEnd, free_spot}
+use Rattle.ev_desk.specs.DeskSteps.{tried, ended_with}
+use Rattle.ev_desk.specs.DeskSlots.{Slot, counts_of, end_word, Shelf, Desk}
+use Rattle.ev_desk.specs.DeskMoves.{counting, doing, Sat, trying, tried_at, ended}
 use Rattle.ev_desk.specs.declared.view.Role.TheVariants.{Loader}
 use Rattle.ev_desk.specs.declared.view.View.{View}
 use Rattle.ev_desk.specs.declared.view.Entry.TheVariants.{Waiting, Finished}

@@ -8,9 +8,9 @@ use Rattle.std.specs.Prelude.{Some, None}
 use Rattle.atomic_table.specs.Table.{opening, Splits, Joins}
 use Rattle.atomic_table.proofs.Lists.{at_map, at_longer, set_else}
 use Rattle.ev_seats.proofs.Lists.{set_at, at_replicate, at_home, lone}
-use Rattle.ev_desk.specs.Tally.{Tally, new_loader, spent_counts, free_spot}
-use Rattle.ev_desk.specs.Slots.{Slot, counts_of, Lies, Desk, opening_view, loader_view, spent_view}
-use Rattle.ev_desk.specs.Moves.{parted, both}
+use Rattle.ev_desk.specs.DeskTally.{Tally, new_loader, spent_counts, free_spot}
+use Rattle.ev_desk.specs.DeskSlots.{Slot, counts_of, Lies, Desk, opening_view, loader_view, spent_view}
+use Rattle.ev_desk.specs.DeskMoves.{parted, both}
 use Rattle.ev_desk.specs.declared.view.Role.TheVariants.{Asker, Loader}
 use Rattle.ev_desk.specs.declared.view.Spot.{Spot}
 use Rattle.ev_desk.specs.declared.view.Counts.{Counts}

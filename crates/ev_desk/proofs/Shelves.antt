@@ -8,8 +8,8 @@ use Rattle.std.specs.Prelude.{Option, Some, None}
 use Rattle.atomic_table.proofs.Lists.{at_set, at_snoc, set_here, set_else}
 use Rattle.ev_seats.specs.Jobs.{job_of}
 use Rattle.ev_seats.proofs.Jobs.{first_here, first_else}
-use Rattle.ev_desk.specs.Tally.{IsEnd}
-use Rattle.ev_desk.specs.Slots.{Slot, end_word, Lies, Shelf}
+use Rattle.ev_desk.specs.DeskTally.{IsEnd}
+use Rattle.ev_desk.specs.DeskSlots.{Slot, end_word, Lies, Shelf}
 use Rattle.ev_seats.specs.Homes.{Homes, IsOut, IsBlank}
 use Rattle.ev_desk.specs.declared.view.Stage.{Stage}
 use Rattle.ev_desk.specs.declared.view.Stage.TheVariants.{Free, Asked, Ended, Closed}

@@ -1,6 +1,6 @@
 -- Where the words of the places lie in the table.
 use Rattle.std.proofs.Common.{◌≡◌, ℕ, zero, suc, ◌*◌, ◌<◌, List, [], ◌∷◌, ◌++◌, set, get_or, length, replicate, sym, refl, ap, ◌∙◌, arith}
-use Rattle.ev_desk.specs.Slots.{spread, place_of}
+use Rattle.ev_desk.specs.DeskSlots.{spread, place_of}
 
 pub place_back : (p i : ℕ) → i ≡ p * 8 → place_of i ≡ p
 unfolding place_of

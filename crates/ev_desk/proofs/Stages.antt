@@ -5,18 +5,18 @@ use mathlib.Core.Logic.{dite}
 use native.Mathlib.Decide.{ℕ_discrete}
 use Rattle.ev_seats.specs.Jobs.{job_of}
 use Rattle.ev_seats.proofs.Jobs.{first_here}
-use Rattle.ev_desk.specs.Says.{stage_at, IsIdle, IsOnlyAsked, asked_at, saw_busy, collected, taken_back, found_late}
+use Rattle.ev_desk.specs.DeskSays.{stage_at, IsIdle, IsOnlyAsked, asked_at, saw_busy, collected, taken_back, found_late}
 use Rattle.ev_desk.specs.declared.view.Stage.TheVariants.{Free, Asked, Ended, Closed}
 use Rattle.ev_desk.specs.declared.view.View.{View}
 use Rattle.ev_desk.proofs.Calls.{in_range, spot_set}
 use Rattle.std.proofs.lemmas.List.{get_or-map, length-map}
 use lib.Seq.{map-set}
 use Rattle.std.proofs.Math.Seq.{map-set_same}
-use Rattle.ev_desk.specs.Says.{stage_of}
-use Rattle.ev_desk.specs.Steps.{no_spot, spot_at}
-use Rattle.ev_desk.specs.Tally.{free_spot}
-use Rattle.ev_desk.specs.Slots.{opening_view}
-use Rattle.ev_desk.specs.Moves.{parted}
+use Rattle.ev_desk.specs.DeskSays.{stage_of}
+use Rattle.ev_desk.specs.DeskSteps.{no_spot, spot_at}
+use Rattle.ev_desk.specs.DeskTally.{free_spot}
+use Rattle.ev_desk.specs.DeskSlots.{opening_view}
+use Rattle.ev_desk.specs.DeskMoves.{parted}
 use Rattle.ev_desk.specs.declared.view.Stage.{Stage}
 use Rattle.ev_desk.specs.declared.view.Spot.{Spot}
 

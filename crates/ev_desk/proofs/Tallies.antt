@@ -10,8 +10,8 @@ use Rattle.atomic_table.proofs.Lists.{at_set, at_snoc}
 use Rattle.ev_seats.specs.Weights.{total, is_of}
 use Rattle.ev_seats.proofs.Lists.{inside, at_replicate, lone}
 use Rattle.ev_seats.proofs.Sums.{total-append, total-set, term_le, terms_le, total-lone, total-replicate, is_of-same, is_of-other}
-use Rattle.ev_desk.specs.Tally.{is_asker, is_loader, is_fault, is_taken, holders, faults_in, loaders_in, IsEnd, Fits, Asks, Tally, free_spot, opening_counts, new_loader, spent_counts}
-use Rattle.ev_desk.specs.Steps.{no_spot, spot_of, with_spot, staged, looked_at, took_end, came_late, with_loader, tried, ended_with, with_loader_out, taken_in}
+use Rattle.ev_desk.specs.DeskTally.{is_asker, is_loader, is_fault, is_taken, holders, faults_in, loaders_in, IsEnd, Fits, Asks, Tally, free_spot, opening_counts, new_loader, spent_counts}
+use Rattle.ev_desk.specs.DeskSteps.{no_spot, spot_of, with_spot, staged, looked_at, took_end, came_late, with_loader, tried, ended_with, with_loader_out, taken_in}
 use Rattle.ev_desk.specs.declared.view.Role.{Role}
 use Rattle.ev_desk.specs.declared.view.Role.TheVariants.{Asker, Loader, Spent}
 use Rattle.ev_desk.specs.declared.view.Stage.{Stage}

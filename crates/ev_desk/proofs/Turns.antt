@@ -3,8 +3,8 @@ use Rattle.std.proofs.Common.{◌≡◌, ◌≢◌, ℕ, ◌+◌, ◌-◌, ◌%�
 use mathlib.Core.Logic.{dite}
 use native.Mathlib.Decide.{ℕ_discrete}
 use Rattle.std.proofs.lemmas.Bool.{cases_lt}
-use Rattle.ev_desk.specs.Tally.{no_try}
-use Rattle.ev_desk.specs.Says.{try_at, IsTried, IsMissed, IsFirstHit}
+use Rattle.ev_desk.specs.DeskTally.{no_try}
+use Rattle.ev_desk.specs.DeskSays.{try_at, IsTried, IsMissed, IsFirstHit}
 use Rattle.ev_desk.specs.declared.view.Try.{Try}
 use Rattle.ev_desk.specs.declared.view.View.{View}
 

@@ -2,7 +2,7 @@
 use Rattle.std.specs.Prelude.{◌≡◌, ℕ, ◌+◌, Some, None}
 use Rattle.ev_seats.specs.Weights.{total}
 use Rattle.ev_seats.specs.Jobs.{job_of, is_at}
-use Rattle.ev_desk.specs.Says.{stage_at}
+use Rattle.ev_desk.specs.DeskSays.{stage_at}
 use Rattle.ev_desk.specs.declared.view.Stage.{Stage}
 use Rattle.ev_desk.specs.declared.view.Stage.TheVariants.{Free, Asked, Ended, Closed}
 use Rattle.ev_desk.specs.declared.view.View.{View}

@@ -1,5 +1,5 @@
 //! What holds of each asker between its calls.
-ghost use Rattle.ev_desk.specs.Seen.{asker_view};
+ghost use Rattle.ev_desk.specs.DeskSeen.{asker_view};
 ghost use Rattle.ev_desk.specs.Books.{Books, HasJobWhereAsked};
 
 use crate::askers::Asker;

@@ -1,8 +1,8 @@
 //! How a desk is made.
 ghost use Rattle.std.specs.Prelude.{◌≡◌, IfOk};
-ghost use Rattle.ev_desk.specs.Seen.{asker_view, loader_view, IsOf};
-ghost use Rattle.ev_desk.specs.Slots.{opening_view, loader_view as new_loader_view};
-ghost use Rattle.ev_desk.specs.Moves.{parted};
+ghost use Rattle.ev_desk.specs.DeskSeen.{asker_view, loader_view, IsOf};
+ghost use Rattle.ev_desk.specs.DeskSlots.{opening_view, loader_view as new_loader_view};
+ghost use Rattle.ev_desk.specs.DeskMoves.{parted};
 
 use crate::NoMemory;
 use crate::askers::Asker;

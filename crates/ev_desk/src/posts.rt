@@ -1,7 +1,7 @@
 //! A seat at the desk's table, as the asker and the loader have one.
 ghost use Rattle.std.specs.Prelude.{◌≡◌, ◌*◌, ◌<◌, None};
 ghost use Rattle.std.specs.Arc.{arc_value};
-ghost use Rattle.ev_desk.specs.Slots.{carried_by, end_word, place_of};
+ghost use Rattle.ev_desk.specs.DeskSlots.{carried_by, end_word, place_of};
 
 use crate::NoMemory;
 use crate::errand::Errand;
@@ -72,11 +72,11 @@ impl<J: Errand<E>, E: Drop> Post<J, E> {
     ghost use Rattle.std.specs.Prelude.{◌≤◌, Some, IfOk, MatchResult};
     ghost use Rattle.ev_desk.specs.declared.view.Role.TheVariants.{Asker, Loader};
     ghost use Rattle.ev_desk.specs.declared.view.Stage.TheVariants.{Free, Asked, Closed};
-    ghost use Rattle.ev_desk.specs.Seen.{IsSamePost, post_view};
-    ghost use Rattle.ev_desk.specs.Says.{stage_at, asked_at, Attempts, Ends, Backs};
-    ghost use Rattle.ev_desk.specs.Slots.{loader_view as new_loader_view};
-    ghost use Rattle.ev_desk.specs.Steps.{staged, ended_with};
-    ghost use Rattle.ev_desk.specs.Moves.{counting, doing, parted, both};
+    ghost use Rattle.ev_desk.specs.DeskSeen.{IsSamePost, post_view};
+    ghost use Rattle.ev_desk.specs.DeskSays.{stage_at, asked_at, Attempts, Ends, Backs};
+    ghost use Rattle.ev_desk.specs.DeskSlots.{loader_view as new_loader_view};
+    ghost use Rattle.ev_desk.specs.DeskSteps.{staged, ended_with};
+    ghost use Rattle.ev_desk.specs.DeskMoves.{counting, doing, parted, both};
 
     /// Leaves a job at a free place.
     pub(crate) fn leave(&mut self, place: usize, job: J)

@@ -1,7 +1,7 @@
 //! An asker and a loader share a desk.
 ghost use Rattle.std.specs.Prelude.{◌≡◌, ◌*◌, ◌≤◌, None, MatchOption};
-ghost use Rattle.ev_desk.specs.Seen.{asker_view, asker_desk, loader_view, loader_desk, IsOf};
-ghost use Rattle.ev_desk.specs.Says.{IsIdle, IsOnlyAsked};
+ghost use Rattle.ev_desk.specs.DeskSeen.{asker_view, asker_desk, loader_view, loader_desk, IsOf};
+ghost use Rattle.ev_desk.specs.DeskSays.{IsIdle, IsOnlyAsked};
 
 use crate::{Ask, Asker, Collect, Errand, Loader, TakeJob, Withdraw, desk};
 use std::sync::Wait;

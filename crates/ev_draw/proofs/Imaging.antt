@@ -21,7 +21,7 @@ use Rattle.ev_cmds.specs.Patches.{has_place}
 use Rattle.ev_cmds.specs.Sheets.{Fits, op_of}
 use Rattle.ev_cmds.specs.declared.sheet.Command.{Command}
 use Rattle.ev_draw.specs.Making.{Paints, span, line_of, shown_by, pixel_of}
-use Rattle.ev_draw.specs.Rows.{AreMade, AreMadeFor}
+use Rattle.ev_draw.specs.KeptRows.{AreMade, AreMadeFor}
 use Rattle.ev_draw.proofs.Patching.{has_is, repainted, put_blended}
 
 -- columns of an object, counted from its first one

@@ -8,9 +8,9 @@ use Rattle.ev_region.specs.Count.{LiesWithin}
 use Rattle.ev_model.specs.Capture.{Capture}
 use Rattle.ev_cmds.specs.Cuts.{Cut, IsCutOf}
 use Rattle.ev_cmds.specs.declared.tile.TileCommands.{TileCommands}
-use Rattle.ev_draw.specs.Jobs.{Job, tile_of}
+use Rattle.ev_draw.specs.DrawnTiles.{Job, tile_of}
 use Rattle.ev_draw.specs.Making.{IsDrawn}
-use Rattle.ev_draw.specs.Small.{IsSmallPlane}
+use Rattle.ev_draw.specs.SmallPlanes.{IsSmallPlane}
 
 and_false : (b : Bool) → (b && false) ≡ false
 and_false true = refl

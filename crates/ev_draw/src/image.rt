@@ -9,7 +9,7 @@ ghost use Rattle.ev_model.specs.declared.object.Op.TheVariants.{Blend, Copy};
 ghost use Rattle.ev_model.specs.declared.content.Content.TheVariants.{Image};
 ghost use Rattle.ev_fill.specs.Rows.{HasRow};
 ghost use Rattle.ev_draw.specs.Making.{Paints, span, line_of, shown_by, CarriesOut};
-ghost use Rattle.ev_draw.specs.Rows.{AreMade, AreMadeFor};
+ghost use Rattle.ev_draw.specs.KeptRows.{AreMade, AreMadeFor};
 
 use crate::command::op_of;
 use crate::place::{column_of, height_of, row_of, width_of};

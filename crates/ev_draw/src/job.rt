@@ -3,10 +3,10 @@ ghost use Rattle.std.specs.Prelude.{◌≡◌, ℤ, Bool};
 ghost use Rattle.std.specs.Arc.{arc_value};
 ghost use Rattle.ev_model.specs.Capture.{Capture};
 ghost use Rattle.ev_cmds.specs.Cuts.{IsCutOf, most_painted};
-ghost use Rattle.ev_cmds.specs.Jobs.{IsPlaced};
+ghost use Rattle.ev_cmds.specs.TileJobs.{IsPlaced};
 ghost use Rattle.ev_cmds.specs.declared.tile.TileCommands.{TileCommands};
 ghost use Rattle.ev_draw.specs.Making.{IsDrawn, PaintsAtMost};
-ghost use Rattle.ev_draw.specs.Jobs as jobs;
+ghost use Rattle.ev_draw.specs.DrawnTiles as jobs;
 
 use crate::sheet::draw_sheet;
 use ev_argb::Plane;
@@ -26,7 +26,7 @@ pub struct TileJob {
 
 impl Model for TileJob {
     ghost use Rattle.std.specs.Arc.{arc_value};
-    ghost use Rattle.ev_draw.specs.Jobs.{Job, IsJob};
+    ghost use Rattle.ev_draw.specs.DrawnTiles.{Job, IsJob};
 
     ghost Value = { Job };
 

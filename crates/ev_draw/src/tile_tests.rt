@@ -7,7 +7,7 @@ ghost use Rattle.ev_model.specs.Limits.{IsContent, IsObject};
 ghost use Rattle.ev_model.specs.Look.{look_of};
 ghost use Rattle.ev_model.specs.Small.{AreSmall};
 ghost use Rattle.ev_model.specs.Stage.{canvas_on};
-ghost use Rattle.ev_draw.specs.Small.{IsSmallPlane};
+ghost use Rattle.ev_draw.specs.SmallPlanes.{IsSmallPlane};
 
 use crate::{TileJob, draw};
 use ev_argb::{Pixel, Plane};

@@ -8,9 +8,9 @@ use Rattle.ev_argb.specs.Tile.{Tile}
 use Rattle.ev_argb.specs.Grid.{HasSizeOf, across, plane_of, with_plane, painted_of, side_of}
 use Rattle.ev_geom.specs.Tiles.{tiles_along}
 use Rattle.ev_cmds.specs.Cuts.{Cut}
-use Rattle.ev_cmds.specs.Jobs.{tiles_of}
-use Rattle.ev_draw.specs.Jobs.{Job, IsJob}
-use Rattle.ev_buffers.specs.Chain.{Lent, FitsChain}
+use Rattle.ev_cmds.specs.TileJobs.{tiles_of}
+use Rattle.ev_draw.specs.DrawnTiles.{Job, IsJob}
+use Rattle.ev_buffers.specs.BufferChain.{Lent, FitsChain}
 use Rattle.ev_buffers.specs.Kept.{ShowsDone, PlaneShows, KeepsByTaking}
 use Rattle.ev_frames.specs.Running.{AreFor, AreLeft, AreOn, AreOut, AreRising, IsJobOf, IsRunning, JobShows, Keeps, Lends, painted_left}
 use Rattle.ev_frames.proofs.Places.{few_jobs, jobs_rise, jobs_within}

@@ -7,9 +7,9 @@ use Rattle.ev_argb.specs.Argb.{Argb}
 use Rattle.ev_argb.specs.Tile.{Tile}
 use Rattle.ev_argb.specs.Grid.{IsWhole, HasSizeOf, plane_of, with_plane, painted_of}
 use Rattle.ev_cmds.specs.Cuts.{IsCutOf, most_painted}
-use Rattle.ev_cmds.specs.Jobs.{tiles_of}
+use Rattle.ev_cmds.specs.TileJobs.{tiles_of}
 use Rattle.ev_model.specs.Capture.{Capture}
-use Rattle.ev_buffers.specs.Chain.{Lent}
+use Rattle.ev_buffers.specs.BufferChain.{Lent}
 use Rattle.ev_buffers.specs.Kept.{ShowsDone, TileShows, KeepsByPutting}
 use Rattle.ev_frames.specs.Running.{Running, AreFor, AreOut, AreRising, EachFrom, IsRunning, IsShownAt, IsSizedAt, Keeps, Returns, frame_cost, painted_on, tile_cost, tiles_cost}
 use Rattle.ev_frames.proofs.Planes.{put_back, whole}

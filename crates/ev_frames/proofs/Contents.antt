@@ -9,10 +9,10 @@ use Rattle.ev_argb.specs.Grid.{HasSizeOf, across}
 use Rattle.ev_model.specs.Capture.{Capture}
 use Rattle.ev_model.specs.Look.{Look}
 use Rattle.ev_cmds.specs.Cuts.{Cut, IsCutOf, most_painted}
-use Rattle.ev_cmds.specs.Jobs.{IsPlaced, tiles_of}
+use Rattle.ev_cmds.specs.TileJobs.{IsPlaced, tiles_of}
 use Rattle.ev_cmds.specs.Sheets.{cost, painted_looks}
 use Rattle.ev_cmds.specs.declared.tile.TileCommands.{TileCommands}
-use Rattle.ev_draw.specs.Jobs.{Job, tile_of as commands_of}
+use Rattle.ev_draw.specs.DrawnTiles.{Job, tile_of as commands_of}
 use Rattle.ev_draw.specs.Making.{IsDrawn, PaintsAtMost}
 use Rattle.ev_buffers.specs.Kept.{TileShows}
 use Rattle.ev_frames.specs.Running.{Running, AreFor, AreLeft, IsJobOf, IsRunning, IsShownAt, IsSizedAt, JobShows, Keeps, painted_left, painted_on, tile_cost, tiles_cost}

@@ -5,9 +5,9 @@ use Rattle.std.proofs.Math.Seq.{get_or-append_seam}
 use Rattle.std.proofs.lemmas.List.{get_or_append_left, get_or-map, length-map}
 use Rattle.ev_argb.specs.Tile.{Tile}
 use Rattle.ev_cmds.specs.Cuts.{Cut}
-use Rattle.ev_cmds.specs.Jobs.{tiles_of}
+use Rattle.ev_cmds.specs.TileJobs.{tiles_of}
 use Rattle.ev_cmds.specs.declared.tile.TileCommands.{TileCommands}
-use Rattle.ev_draw.specs.Jobs.{Job}
+use Rattle.ev_draw.specs.DrawnTiles.{Job}
 use Rattle.ev_frames.specs.Running.{AreLeft, EachFrom, IsJobOf}
 
 -- the first of the jobs that are left stands last

@@ -7,8 +7,8 @@ use Rattle.ev_geom.specs.Tiles.{jobs_of}
 use Rattle.ev_model.specs.Capture.{Capture}
 use Rattle.ev_model.specs.Paint as model
 use Rattle.ev_cmds.specs.Cuts.{Cut, IsCutOf}
-use Rattle.ev_cmds.specs.Jobs.{tiles_of}
-use Rattle.ev_buffers.specs.Chain.{Chain, Draft, Lent, IsPlanOf}
+use Rattle.ev_cmds.specs.TileJobs.{tiles_of}
+use Rattle.ev_buffers.specs.BufferChain.{Chain, Draft, Lent, IsPlanOf}
 use Rattle.ev_buffers.specs.Kept.{Follows, IsKept, KeepsByLending, KeepsWhenDone, ShowsDone}
 use Rattle.ev_frames.specs.Running.{Running, Keeps, Lends, Returns}
 use Rattle.ev_frames.specs.Stand.{Stand, KeepsTo}

@@ -8,10 +8,10 @@ use Rattle.ev_geom.specs.Tiles.{jobs_of, tiles_along}
 use Rattle.ev_model.specs.Capture.{Capture}
 use Rattle.ev_model.specs.Paint as model
 use Rattle.ev_cmds.specs.Cuts.{Cut, IsCutOf, most_painted}
-use Rattle.ev_cmds.specs.Jobs.{tiles_of}
+use Rattle.ev_cmds.specs.TileJobs.{tiles_of}
 use Rattle.ev_cmds.specs.Sheets.{cost}
-use Rattle.ev_draw.specs.Jobs.{Job}
-use Rattle.ev_buffers.specs.Chain.{Lent}
+use Rattle.ev_draw.specs.DrawnTiles.{Job}
+use Rattle.ev_buffers.specs.BufferChain.{Lent}
 use Rattle.ev_buffers.specs.Kept.{ShowsDone, TileShows}
 
 -- The commands of its tiles, the buffer that it is drawn on, the jobs that nobody drew yet, the last one first, and the planes that

@@ -7,7 +7,7 @@ use Rattle.ev_geom.specs.Bands.{has_pixel}
 use Rattle.ev_model.specs.Capture.{Capture}
 use Rattle.ev_model.specs.Paint.{paint}
 use Rattle.ev_cmds.specs.Cuts.{Cut, IsCutOf}
-use Rattle.ev_buffers.specs.Chain.{Chain, Draft, IsPlanOf, is_lent, painted_on_all}
+use Rattle.ev_buffers.specs.BufferChain.{Chain, Draft, IsPlanOf, is_lent, painted_on_all}
 use Rattle.ev_buffers.specs.Kept.{IsKept, Follows}
 use Rattle.ev_frames.specs.Running.{Running, Keeps, frame_cost}
 

@@ -3,7 +3,7 @@ ghost use Rattle.std.specs.Prelude.{◌≡◌, ◌+◌, ◌*◌, ◌<◌, ◌≤
 ghost use Rattle.ev_geom.specs.Bands.{has_pixel};
 ghost use Rattle.ev_geom.specs.Tiles.{jobs_of};
 ghost use Rattle.ev_cmds.specs.Cuts.{most_painted};
-ghost use Rattle.ev_buffers.specs.Chain.{IsPlanOf, IsPlanned, FitsChain, drawn, last_updates, lent_by};
+ghost use Rattle.ev_buffers.specs.BufferChain.{IsPlanOf, IsPlanned, FitsChain, drawn, last_updates, lent_by};
 ghost use Rattle.ev_buffers.specs.Kept.{IsNew, Repairs, ShowsLast};
 
 use crate::NoMemory;

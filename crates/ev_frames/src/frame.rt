@@ -2,7 +2,7 @@
 ghost use Rattle.std.specs.Prelude.{◌≡◌, ◌+◌, ◌<◌, ◌≤◌, ◌^◌, length, []};
 ghost use Rattle.std.specs.Arc.{arc_value};
 ghost use Rattle.ev_argb.specs.Grid.{IsWhole, painted_of};
-ghost use Rattle.ev_buffers.specs.Chain.{FitsChain};
+ghost use Rattle.ev_buffers.specs.BufferChain.{FitsChain};
 
 use crate::room::Room;
 use ev_buffers::Loan;
@@ -42,7 +42,7 @@ impl Frame {
     ghost use Rattle.ev_argb.specs.Argb.{Argb};
     ghost use Rattle.ev_cmds.specs.Cuts.{IsCutOf, most_painted};
     ghost use Rattle.ev_model.specs.Capture.{Capture};
-    ghost use Rattle.ev_cmds.specs.Jobs.{tiles_of};
+    ghost use Rattle.ev_cmds.specs.TileJobs.{tiles_of};
     ghost use Rattle.ev_frames.specs.Running.{AreOn, Keeps, Lends, Returns, frame_cost};
     ghost use Rattle.ev_frames.specs.Rooms.{IsRoom};
 

@@ -2,7 +2,7 @@
 use Rattle.std.proofs.Common.{◌≡◌, ℕ, ℤ, suc, ◌+◌, ◌<◌, List, [], ◌∷◌, ◌++◌, length, flat_map, Option, Some, sym, ◌∙◌, ap, arith}
 use Rattle.std.proofs.lemmas.List.{append_assoc, append-nil}
 use Rattle.ev_model.specs.Order.{in_order}
-use Rattle.ev_stack.specs.Order.{ids_above, ids_from}
+use Rattle.ev_stack.specs.LayerOrder.{ids_above, ids_from}
 use Rattle.ev_groups.specs.Groups.{group, siblings}
 use Rattle.ev_groups.specs.Walk.{visited, part, ahead}
 use Rattle.ev_groups.specs.declared.walk.Frame.{Frame}

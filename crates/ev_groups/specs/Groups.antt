@@ -2,7 +2,7 @@
 -- and at the place of an id are the members of that object.
 use Rattle.std.specs.Prelude.{ℕ, ℤ, List, [], ◌∷◌, map, Option, Some, None, get_or, slice_set}
 use Rattle.std.specs.Option.{unwrap_or}
-use Rattle.ev_stack.specs.Order.{ids_of}
+use Rattle.ev_stack.specs.LayerOrder.{ids_of}
 
 -- where the group of a parent stands
 abbrev pub place : Option ℕ → ℕ

@@ -1,4 +1,4 @@
 pub mod Groups
 pub mod Walk
 pub mod Listed
-pub mod Lending
+pub mod LendingGroups

@@ -1,7 +1,7 @@
 -- What a walk in the order of painting has before it.
 use Rattle.std.specs.Prelude.{ℕ, ℤ, List, [], ◌∷◌, ◌++◌, Option, Some, flat_map}
 use Rattle.ev_model.specs.Order.{in_order}
-use Rattle.ev_stack.specs.Order.{ids_from}
+use Rattle.ev_stack.specs.LayerOrder.{ids_from}
 use Rattle.ev_groups.specs.Groups.{group, siblings}
 use Rattle.ev_groups.specs.declared.walk.Frame.{Frame}
 

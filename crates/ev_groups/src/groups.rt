@@ -2,10 +2,10 @@
 ghost use Rattle.std.specs.Prelude.{◌≡◌, ◌≢◌, ◌<◌, ◌≤◌, ◌++◌, ◌∷◌, [], length, map, true, None, Some, is_some, IfSome, IfOk, OnOk, OnErr};
 ghost use Rattle.std.specs.Borrow.{sem};
 ghost use Rattle.ev_model.specs.Order.{in_order};
-ghost use Rattle.ev_stack.specs.Order.{layer_in, put_top};
+ghost use Rattle.ev_stack.specs.LayerOrder.{layer_in, put_top};
 ghost use Rattle.ev_slots.specs.Slots.{of_id};
 ghost use Rattle.ev_groups.specs.Groups.{place, group, siblings, with_group, members_of};
-ghost use Rattle.ev_groups.specs.Lending.{LendsGroup};
+ghost use Rattle.ev_groups.specs.LendingGroups.{LendsGroup};
 
 use crate::NoMemory;
 use crate::listed::Listed;

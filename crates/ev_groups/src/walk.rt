@@ -1,7 +1,7 @@
 // The order in which objects are painted.
 ghost use Rattle.std.specs.Prelude.{◌≡◌, ◌++◌, OnOk, flat_map};
 ghost use Rattle.ev_model.specs.Order.{in_order};
-ghost use Rattle.ev_stack.specs.Order.{ids_above};
+ghost use Rattle.ev_stack.specs.LayerOrder.{ids_above};
 ghost use Rattle.ev_groups.specs.Groups.{group, siblings};
 
 use crate::{Groups, NoMemory};

@@ -4,7 +4,7 @@ use Rattle.ev_geom.specs.Area.{Area}
 use Rattle.ev_port.specs.Told.{GrowsBy, GrowsPart, grows_on, part_of_front, whole_then_part}
 use Rattle.ev_model.specs.Answer.{Shown}
 use Rattle.ev_model.specs.Text.{update_text, reply_text}
-use Rattle.ev_lang.specs.Parts.{heading_text}
+use Rattle.ev_lang.specs.ReplyParts.{heading_text}
 
 -- its first line, and then its updates
 shown_text : (n w h : ℕ) (updates : List Area) → heading_text n w h (length updates) ++ flat_map update_text updates ≡ reply_text (Shown n w h updates)

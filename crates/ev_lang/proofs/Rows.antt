@@ -6,7 +6,7 @@ use Rattle.std.proofs.lemmas.Bool.Decides.{nat_tests}
 use Rattle.ev_argb.specs.Argb.{Argb}
 use Rattle.ev_port.specs.Told.{GrowsBy, GrowsPart, grows_on, grows_by_none, part_of_front, whole_then_part}
 use Rattle.ev_model.specs.Text.{place_text, places_text}
-use Rattle.ev_lang.specs.Parts.{column_text, IsLaid}
+use Rattle.ev_lang.specs.ReplyParts.{column_text, IsLaid}
 
 -- all columns but the first have a space
 later : (x : ℕ) (p : Option Argb) → 0 < x → column_text x p ≡ 32 ∷ place_text p

@@ -4,5 +4,5 @@ pub mod Args
 pub mod Verbs
 pub mod Value
 pub mod Lines
-pub mod Examples
-pub mod Parts
+pub mod LineExamples
+pub mod ReplyParts

@@ -4,7 +4,7 @@ ghost use Rattle.ev_port.specs.Told.{GrowsBy, GrowsPart};
 ghost use Rattle.ev_port.specs.Causes.{HasCause};
 ghost use Rattle.ev_model.specs.Answer.{DumpRow};
 ghost use Rattle.ev_model.specs.Text.{reply_text};
-ghost use Rattle.ev_lang.specs.Parts.{IsLaid, column_text};
+ghost use Rattle.ev_lang.specs.ReplyParts.{IsLaid, column_text};
 
 use crate::draft::Draft;
 use ev_argb::{MAX_SIDE, Pixel};

@@ -4,7 +4,7 @@ ghost use Rattle.ev_port.specs.Told.{GrowsBy, GrowsPart};
 ghost use Rattle.ev_port.specs.Causes.{HasCause};
 ghost use Rattle.ev_model.specs.Answer.{Shown};
 ghost use Rattle.ev_model.specs.Text.{update_text, reply_text};
-ghost use Rattle.ev_lang.specs.Parts.{heading_text};
+ghost use Rattle.ev_lang.specs.ReplyParts.{heading_text};
 
 use crate::draft::Draft;
 use crate::reply::{LINE, send};

@@ -8,8 +8,8 @@ use Rattle.ev_links.specs.declared.table.Table.{Table}
 use Rattle.ev_links.specs.declared.table.Node.{Node}
 use Rattle.ev_links.specs.Ties.{Tie, Ties, released, clipper_at, parent_at}
 use Rattle.ev_links.specs.Tables.{tie_of, node_in, tie_in, clips_in, ties_of, released_node, released_entry, ChangesTie, with_clipper}
-use Rattle.ev_links.specs.Kept.{IsKept}
-use Rattle.ev_links.specs.Calls.{Drops}
+use Rattle.ev_links.specs.KeptTable.{IsKept}
+use Rattle.ev_links.specs.LinkCalls.{Drops}
 use Rattle.ev_links.proofs.Sound.{sound_unclipped, sound_removed}
 use Rattle.ev_links.proofs.Counts.{Counts-same, Counts-some, option_neq}
 use Rattle.ev_links.proofs.Views.{get-ties_of, read}

@@ -14,8 +14,8 @@ use Rattle.ev_links.specs.declared.table.Table.{Table}
 use Rattle.ev_links.specs.declared.table.Node.{Node}
 use Rattle.ev_links.specs.Ties.{Tie, Ties, next_at, clipper_at, parent_at, kind_at, IsWay, IsFrom, Has, IsDistinct, has, walk, step_up, up_of, places_of, is_inside, Counts}
 use Rattle.ev_links.specs.Tables.{tie_of, node_in, tie_in, clips_in, ties_of}
-use Rattle.ev_links.specs.Kept.{IsKept}
-use Rattle.ev_links.specs.Calls.{is_rect, is_smart, first_clip_fault, first_join_fault, first_leave_fault, clips, is_clipping, clip_fault, join_fault, leave_fault}
+use Rattle.ev_links.specs.KeptTable.{IsKept}
+use Rattle.ev_links.specs.LinkCalls.{is_rect, is_smart, first_clip_fault, first_join_fault, first_leave_fault, clips, is_clipping, clip_fault, join_fault, leave_fault}
 use Rattle.ev_links.proofs.Ways.{one_way, has-Has, walk-IsWay, no_repeats, step_up-IsWay}
 use Rattle.ev_links.proofs.Sound.{parents_end, met_by_parents, part_there, next_there, parent_there}
 use Rattle.ev_links.proofs.Views.{read, same_test, len_read, way_fits}

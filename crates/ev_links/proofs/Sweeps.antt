@@ -9,7 +9,7 @@ use Rattle.std.specs.Option.{option_and_then, option_or, option_map}
 use Rattle.ev_links.specs.declared.table.Table.{Table}
 use Rattle.ev_links.specs.Ties.{Tie, Ties, next_at, clipper_at, parent_at, has, IsSound}
 use Rattle.ev_links.specs.Tables.{tie_in, clips_in, ties_of, with_clipper}
-use Rattle.ev_links.specs.Kept.{IsKept}
+use Rattle.ev_links.specs.KeptTable.{IsKept}
 use Rattle.ev_links.proofs.Ways.{ends_shortened, Shortens}
 use Rattle.ev_links.proofs.Counts.{Counts-same}
 use Rattle.ev_links.proofs.Views.{get-ties_of, read}

@@ -7,7 +7,7 @@ use Rattle.ev_model.specs.declared.content.Kind.TheVariants.{Rect, Smart}
 use Rattle.ev_links.specs.declared.table.Table.{Table}
 use Rattle.ev_links.specs.Ties.{Tie, alone, next_at, clipper_at, parent_at, kind_at, IsWay, Has, IsSound, Counts}
 use Rattle.ev_links.specs.Tables.{tie_in, clips_in, with_clipper, with_parent, ChangesTie, SetsClips, SameTies, SameClips}
-use Rattle.ev_links.specs.Kept.{IsKept}
+use Rattle.ev_links.specs.KeptTable.{IsKept}
 use Rattle.ev_links.proofs.Sound.{part_there, sound_unclipped, sound_clipped, sound_moved, sound_added}
 use Rattle.ev_links.proofs.Ways.{same_way, one_way}
 use Rattle.ev_links.proofs.Views.{fewer}

@@ -13,7 +13,7 @@ use Rattle.ev_links.specs.declared.table.Node.{Node}
 use Rattle.ev_links.specs.declared.table.Table.{Table}
 use Rattle.ev_links.specs.Ties.{Tie, Ties, IsWay, Has, IsDistinct, walk}
 use Rattle.ev_links.specs.Tables.{tie_of, node_in, tie_in, ties_of, ChangesTie, SameTies}
-use Rattle.ev_links.specs.Calls.{put_tie}
+use Rattle.ev_links.specs.LinkCalls.{put_tie}
 use Rattle.std.proofs.lemmas.Map.Keys.{IsDistinct-head, IsDistinct-tail}
 use Rattle.std.specs.Prelude.{IsSome}
 use Rattle.ev_links.proofs.Ways.{walk-IsWay}

@@ -4,7 +4,7 @@ ghost use Rattle.std.specs.Option.{option_map};
 ghost use Rattle.ev_model.specs.declared.content.Kind.TheVariants.{Rect, Smart};
 ghost use Rattle.ev_links.specs.Ties.{next_at, clipper_at, parent_at, kind_at, released, has, IsWay, Has};
 ghost use Rattle.ev_links.specs.Tables.{tie_in, clips_in, with_clipper, with_parent, ChangesTie, SameClips};
-ghost use Rattle.ev_links.specs.Kept.{IsKept};
+ghost use Rattle.ev_links.specs.KeptTable.{IsKept};
 
 use crate::table::Table;
 

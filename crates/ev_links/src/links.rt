@@ -4,7 +4,7 @@ ghost use Rattle.std.specs.Option.{option_eq};
 ghost use Rattle.std.specs.Result.{result_err};
 ghost use Rattle.std.specs.FinMap.{get, insert, empty, len};
 ghost use Rattle.ev_links.specs.Ties.{alone, up_of, places_of, next_at, parent_at, clipper_at, is_inside, has, IsUp, IsFrom, IsSound, IsDistinct, Counts};
-ghost use Rattle.ev_links.specs.Calls.{is_known, is_clipping, known_fault, clip_fault, join_fault, leave_fault, with_clipper, with_parent, Drops};
+ghost use Rattle.ev_links.specs.LinkCalls.{is_known, is_clipping, known_fault, clip_fault, join_fault, leave_fault, with_clipper, with_parent, Drops};
 
 use crate::NoMemory;
 use crate::edits::{discard, discard_all, rebind, shift, unbind};
@@ -28,7 +28,7 @@ impl Model for Links {
     ghost use Rattle.ev_links.specs.Ties.{Ties};
     ghost use Rattle.ev_links.specs.Coded.{ties_code};
     ghost use Rattle.ev_links.specs.Tables.{ties_of};
-    ghost use Rattle.ev_links.specs.Kept.{IsKept};
+    ghost use Rattle.ev_links.specs.KeptTable.{IsKept};
 
     ghost Value = { Ties };
 

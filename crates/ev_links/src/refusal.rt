@@ -1,6 +1,6 @@
 // Why a call is refused.
 ghost use Rattle.std.specs.Prelude.{◌≡◌};
-ghost use Rattle.ev_links.specs.Calls.{is_rect, is_smart, first_clip_fault, first_join_fault, first_leave_fault};
+ghost use Rattle.ev_links.specs.LinkCalls.{is_rect, is_smart, first_clip_fault, first_join_fault, first_leave_fault};
 
 use ev_model::Kind;
 

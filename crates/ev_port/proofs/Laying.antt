@@ -7,7 +7,7 @@ use Rattle.std.specs.List.{flat_map}
 use Rattle.ev_argb.specs.Argb.{Argb}
 use Rattle.ev_geom.specs.Area.{Area}
 use Rattle.ev_port.specs.Frame.{Frame}
-use Rattle.ev_port.specs.Flat.{all_updates, all_pixels, mark_of, marks_from, frames_of, AreFilled, LieFlat}
+use Rattle.ev_port.specs.FlatFrames.{all_updates, all_pixels, mark_of, marks_from, frames_of, AreFilled, LieFlat}
 use Rattle.ev_port.specs.declared.mem_screen.ShownFrame.{ShownFrame}
 use Rattle.ev_port.proofs.Rows.{front, back}
 

@@ -4,4 +4,4 @@ pub mod Files
 pub mod Frame
 pub mod Calls
 pub mod Memory
-pub mod Flat
+pub mod FlatFrames

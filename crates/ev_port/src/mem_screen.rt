@@ -3,7 +3,7 @@ ghost use Rattle.std.specs.Prelude.{◌≡◌, ◌+◌, ◌*◌, ◌≤◌, ◌+
 ghost use Rattle.ev_argb.specs.Grid.{IsWhole};
 ghost use Rattle.ev_port.specs.Calls.{no_calls};
 ghost use Rattle.ev_port.specs.Causes.{HasCause};
-ghost use Rattle.ev_port.specs.Flat.{marks_from, all_updates, all_pixels};
+ghost use Rattle.ev_port.specs.FlatFrames.{marks_from, all_updates, all_pixels};
 ghost use Rattle.ev_port.specs.Frame.{frame_of, pixels_of};
 ghost use Rattle.ev_port.specs.Memory.{is_too_small, present_fails, room_after, after_present};
 ghost use Rattle.ev_port.specs.Told.{GrowsBy};
@@ -50,7 +50,7 @@ pub struct MemScreen {
 
 impl Model for MemScreen {
     ghost use Rattle.std.specs.Prelude.{◌+◌, ◌≤◌, vec_len, vec_capacity};
-    ghost use Rattle.ev_port.specs.Flat.{LieFlat, frames_of};
+    ghost use Rattle.ev_port.specs.FlatFrames.{LieFlat, frames_of};
     ghost use Rattle.ev_port.specs.Memory.{MemoryScreen};
 
     ghost Value = { MemoryScreen };

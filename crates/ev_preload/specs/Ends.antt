@@ -12,9 +12,9 @@ use Rattle.ev_image.specs.Format as image_format
 use Rattle.ev_image.specs.Reading.{image_at}
 use Rattle.ev_image.specs.Reading as images
 use Rattle.ev_image.specs.declared.fault.BadImage as image_fault
-use Rattle.ev_text.specs.Format as font_format
-use Rattle.ev_text.specs.Reading.{font_at}
-use Rattle.ev_text.specs.Reading as fonts
+use Rattle.ev_text.specs.FontFormat as font_format
+use Rattle.ev_text.specs.FontReading.{font_at}
+use Rattle.ev_text.specs.FontReading as fonts
 use Rattle.ev_text.specs.declared.fault.BadFont as font_fault
 use Rattle.ev_preload.specs.declared.end.LoadEnd.{LoadEnd}
 use Rattle.ev_preload.specs.declared.end.LoadEnd.TheVariants.{Done, Font, Missing, TooLarge, BadImage, BadFont, Failed, NoMemory}

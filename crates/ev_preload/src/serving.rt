@@ -1,7 +1,7 @@
 // How a load is served: its bytes are fetched and decoded.
 ghost use Rattle.std.specs.Prelude.{◌≡◌, ◌≤◌, true};
 ghost use Rattle.ev_image.specs.Reading.{image_at};
-ghost use Rattle.ev_text.specs.Reading.{font_at};
+ghost use Rattle.ev_text.specs.FontReading.{font_at};
 ghost use Rattle.ev_preload.specs.Job.{is_loadable};
 ghost use Rattle.ev_preload.specs.Ends.{image_end, font_end, read_end, EndsAs, EndsBy, StandsIn, StandsBy, IsOfKind, HasCounts, IsFaultless};
 

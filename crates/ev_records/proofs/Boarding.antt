@@ -3,7 +3,7 @@ use Rattle.std.proofs.Common.{◌≡◌, ⊎_elim, inr, List, map, length, sym, 
 use Rattle.std.proofs.lemmas.Grind.{common_steps}
 use Rattle.ev_records.specs.Showing.{Showing, settled}
 use Rattle.ev_records.specs.Standing.{Standings}
-use Rattle.ev_records.specs.Small.{IsBoard}
+use Rattle.ev_records.specs.TwoPlaces.{IsBoard}
 use Rattle.ev_records.proofs.Settling.{settled_at}
 
 pub board_settled : (all : List Showing) (st new : Standings) → IsBoard all st → length new.stands ≡ length st.stands → IsBoard (map settled all) new

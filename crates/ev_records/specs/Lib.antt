@@ -5,4 +5,4 @@ pub mod Turned
 pub mod Cells
 pub mod Ranks
 pub mod Near
-pub mod Small
+pub mod TwoPlaces

@@ -1,6 +1,6 @@
 // What two places owe after a few changes.
 ghost use Rattle.std.specs.Prelude.{◌≡◌, ◌≢◌, ◌≤◌, ◌<◌, ◌%◌, OnOk, IfOk};
-ghost use Rattle.ev_records.specs.Small.{IsSmall, MayBeSmall, IsBoard};
+ghost use Rattle.ev_records.specs.TwoPlaces.{IsSmall, MayBeSmall, IsBoard};
 
 use crate::{NoMemory, Ranks, Records};
 use ev_argb::Pixel;

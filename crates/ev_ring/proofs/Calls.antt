@@ -4,7 +4,7 @@ use mathlib.Core.Option.{none}
 use Rattle.std.specs.Prelude.{Option, Some, None}
 use Rattle.atomic_table.specs.Table.{step, rest, Allows}
 use Rattle.ev_seats.specs.Jobs.{job_of}
-use Rattle.ev_ring.specs.Slots.{Slot, slot_of, carried_by, Ring, IsFree}
+use Rattle.ev_ring.specs.RingSlots.{Slot, slot_of, carried_by, Ring, IsFree}
 use Rattle.ev_ring.specs.Moves.{shelved, Sat, Sees, given, returned}
 use Rattle.ev_ring.specs.declared.view.Role.TheVariants.{Owner, Spent}
 use Rattle.ev_ring.specs.declared.view.Entry.TheVariants.{Waiting, Finished}

@@ -8,7 +8,7 @@ use Rattle.atomic_table.specs.Table.{step, Act, keeps, takes, gives, Valid, home
 use Rattle.atomic_table.proofs.Lists.{at_map, set_again, exchanged}
 use Rattle.ev_ring.specs.Tally.{bare}
 use Rattle.ev_ring.specs.Steps.{saw_limit, saw_claim, lost_to}
-use Rattle.ev_ring.specs.Slots.{Slot, counts_of, slot_of, spread, Ring}
+use Rattle.ev_ring.specs.RingSlots.{Slot, counts_of, slot_of, spread, Ring}
 use Rattle.ev_ring.specs.Moves.{counting, got_job, gave_job, Sat, limit_seen, claim_seen, claimed, given, rung}
 use Rattle.ev_ring.specs.declared.view.Role.TheVariants.{Spent}
 use Rattle.ev_ring.specs.declared.view.View.{View}

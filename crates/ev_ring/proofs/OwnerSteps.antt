@@ -6,7 +6,7 @@ use Rattle.atomic_table.specs.Table.{step, keeps, takes, gives, Allows}
 use Rattle.ev_ring.specs.Tally.{bare, limit_word, Tally}
 use Rattle.ev_ring.specs.Steps.{saw_done, published_to, closed_view}
 use Rattle.ev_seats.specs.Jobs.{job_of, without}
-use Rattle.ev_ring.specs.Slots.{Slot, counts_of, slot_of, holders, spread, IsFree, Ring}
+use Rattle.ev_ring.specs.RingSlots.{Slot, counts_of, slot_of, holders, spread, IsFree, Ring}
 use Rattle.ev_ring.specs.Moves.{counting, shelved, Sat, done_seen, emptied, collected, returned, published, closed}
 use Rattle.ev_ring.specs.declared.view.Role.TheVariants.{Owner}
 use Rattle.ev_ring.specs.declared.view.View.{View}

@@ -9,7 +9,7 @@ use Rattle.std.specs.Prelude.{Option, Some}
 use Rattle.atomic_table.specs.Table.{State, Act, Valid, homes_after, carried_after}
 use Rattle.atomic_table.proofs.Lists.{at_map, set_else}
 use Rattle.ev_ring.specs.Tally.{bare, Tally}
-use Rattle.ev_ring.specs.Slots.{Slot, counts_of, spread, Shelf, Ring}
+use Rattle.ev_ring.specs.RingSlots.{Slot, counts_of, spread, Shelf, Ring}
 use Rattle.ev_ring.specs.Moves.{Sat, Sees}
 use Rattle.ev_ring.specs.declared.view.Role.TheVariants.{Owner}
 use Rattle.ev_ring.specs.declared.view.Counts.{Counts}

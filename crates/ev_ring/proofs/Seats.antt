@@ -9,7 +9,7 @@ use Rattle.atomic_table.specs.Table.{opening, Splits, Joins}
 use Rattle.atomic_table.proofs.Lists.{at_map, at_longer, set_else}
 use Rattle.ev_ring.specs.Tally.{Tally, spent_view as spent_counts}
 use Rattle.ev_ring.specs.Steps.{new_hand as new_counts}
-use Rattle.ev_ring.specs.Slots.{Slot, counts_of, spread, Ring, opening_view, spent_view}
+use Rattle.ev_ring.specs.RingSlots.{Slot, counts_of, spread, Ring, opening_view, spent_view}
 use Rattle.ev_ring.specs.Moves.{parted, new_hand, both}
 use Rattle.ev_ring.specs.declared.view.Role.TheVariants.{Owner, Hand}
 use Rattle.ev_ring.specs.declared.view.Counts.{Counts}

@@ -7,7 +7,7 @@ use lib.ListN.{get_elem?}
 use Rattle.std.specs.Prelude.{Option, Some, None}
 use Rattle.atomic_table.proofs.Lists.{at_set, at_snoc, set_here, set_else}
 use Rattle.ev_seats.specs.Jobs.{job_of, without}
-use Rattle.ev_ring.specs.Slots.{Slot, slot_of, holders, IsFree, Shelf}
+use Rattle.ev_ring.specs.RingSlots.{Slot, slot_of, holders, IsFree, Shelf}
 use Rattle.ev_seats.specs.Weights.{is_of}
 use Rattle.ev_seats.specs.Homes.{Homes, IsOut, IsBlank, IsHome}
 use Rattle.ev_ring.specs.declared.view.View.{View}

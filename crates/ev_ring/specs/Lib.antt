@@ -1,6 +1,6 @@
 pub mod Tally
 pub mod Steps
-pub mod Slots
+pub mod RingSlots
 pub mod Moves
 pub mod Seen
 pub mod Says

@@ -3,7 +3,7 @@ use Rattle.std.specs.Prelude.{◌≡◌, ◌≢◌, ℕ, ◌+◌, ◌<◌, ◌�
 use Rattle.atomic_table.specs.Table.{Me, Step, rest}
 use Rattle.ev_ring.specs.Tally.{bare}
 use Rattle.ev_seats.specs.Jobs.{job_of, without}
-use Rattle.ev_ring.specs.Slots.{Slot, slot_of}
+use Rattle.ev_ring.specs.RingSlots.{Slot, slot_of}
 use Rattle.ev_ring.specs.Steps.{saw_limit, saw_claim, got_ticket, lost_to, gave_ticket, saw_done, published_to, closed_view, with_hand_out, new_hand as new_counts, taken_in, IsLater, HasAll}
 use Rattle.ev_ring.specs.declared.view.Counts.{Counts}
 use Rattle.ev_ring.specs.declared.view.View.{View}

@@ -2,7 +2,7 @@
 use Rattle.std.specs.Prelude.{◌≡◌, ℕ, true, Some, None}
 use Rattle.atomic_table.specs.Seated.{TableId}
 use Rattle.ev_ring.specs.Steps.{with_owner}
-use Rattle.ev_ring.specs.Slots.{opening_view}
+use Rattle.ev_ring.specs.RingSlots.{opening_view}
 use Rattle.ev_ring.specs.Moves.{counting, new_hand}
 use Rattle.ev_ring.specs.declared.view.View.{View}
 use Rattle.ev_ring.specs.declared.posts.Post.{Post}

@@ -1,7 +1,7 @@
 //! A seat at the ring's table, as the owner and each hand have one.
 ghost use Rattle.std.specs.Prelude.{◌≡◌, ◌≢◌, ◌%◌, ◌≤◌, None};
 ghost use Rattle.std.specs.Arc.{arc_value};
-ghost use Rattle.ev_ring.specs.Slots.{carried_by, slot_of};
+ghost use Rattle.ev_ring.specs.RingSlots.{carried_by, slot_of};
 ghost use Rattle.ev_ring.specs.Says.{MAX_TICKETS};
 ghost use Rattle.ev_ring.specs.Tally.{limit_word};
 ghost use Rattle.ev_ring.specs.declared.view.Role.TheVariants.{Spent};
@@ -73,7 +73,7 @@ impl<J: Work> Post<J> {
     ghost use Rattle.std.specs.Prelude.{◌+◌, ◌<◌, ◌≤◌, ◌∷◌, ℕ, true, false, Some, IfOk, MatchResult};
     ghost use Rattle.ev_ring.specs.declared.view.Role.TheVariants.{Owner, Hand};
     ghost use Rattle.ev_seats.specs.Jobs.{job_of, without};
-    ghost use Rattle.ev_ring.specs.Slots.{IsFree};
+    ghost use Rattle.ev_ring.specs.RingSlots.{IsFree};
     ghost use Rattle.ev_ring.specs.Seen.{IsSamePost, post_view, Holds, HoldsNothing, IsQuiet};
     ghost use Rattle.ev_ring.specs.Says.{Claims, HasJobs, joined, saw_both, stocked, DoneSeen};
     ghost use Rattle.ev_ring.specs.Steps.{saw_done, saw_claim, published_to, closed_view, IsLater, HasAll};

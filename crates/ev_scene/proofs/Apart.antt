@@ -1,7 +1,7 @@
 -- Ids that no sibling has.
 use Rattle.std.proofs.Common.{◌≡◌, ℕ, ℤ, List, [], ◌∷◌, Some, None, inl, inr}
 use Rattle.std.proofs.lemmas.Bool.Decides.{eqb_tells}
-use Rattle.ev_stack.specs.Order.{layer_in, IsApart}
+use Rattle.ev_stack.specs.LayerOrder.{layer_in, IsApart}
 
 -- who isn't in the list is apart from it
 pub apart_absent : (xs : List (ℕ × ℤ)) (id : ℕ) → layer_in xs id ≡ None → IsApart id xs

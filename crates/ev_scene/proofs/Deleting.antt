@@ -11,11 +11,11 @@ use Rattle.ev_state.specs.Held.{Held}
 use Rattle.ev_model.specs.Limits.{IsObject}
 use Rattle.ev_model.specs.Up.{is_smart, is_clipped_by}
 use Rattle.ev_model.specs.declared.object.Object.{Object}
-use Rattle.ev_stack.specs.Order as stack
-use Rattle.ev_stack.specs.Order.{layer_in, without}
+use Rattle.ev_stack.specs.LayerOrder as stack
+use Rattle.ev_stack.specs.LayerOrder.{layer_in, without}
 use Rattle.ev_groups.specs.Groups.{place, group, siblings, with_group}
 use Rattle.ev_links.specs.Ties.{Ties, Tie, parent_at, clipper_at, has, released, IsSound}
-use Rattle.ev_links.specs.Calls.{Drops}
+use Rattle.ev_links.specs.LinkCalls.{Drops}
 use Rattle.ev_links.proofs.Ways.{has-Has}
 use Rattle.ev_scene.specs.Ids.{of_id, put, spread, value_of}
 use Rattle.ev_scene.specs.Board.{Board, values_of, inside, ids_in}

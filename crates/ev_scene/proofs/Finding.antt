@@ -19,11 +19,11 @@ use Rattle.ev_scene.proofs.Naming.{held_at, name_held, NamedBy, named_by, unname
 
 -- a change leaves the id and the name
 apply_id : (c : Change) (o : Object) → (apply c o).id ≡ o.id
-apply_id (change.Place x y) o = refl
+apply_id (change.Move x y) o = refl
 apply_id other o = refl
 
 apply_name : (c : Change) (o : Object) → (apply c o).name ≡ o.name
-apply_name (change.Place x y) o = refl
+apply_name (change.Move x y) o = refl
 apply_name other o = refl
 
 module _ (states : List (Option (Held Object))) (ids : List (Label × ℕ)) (seen : List (Option (Held Object))) (roll : IsRoll states ids) (is : states ≡ seen) where

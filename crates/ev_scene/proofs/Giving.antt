@@ -19,14 +19,14 @@ use Rattle.ev_model.specs.declared.object.Object.{Object}
 use Rattle.ev_links.specs.Ties.{has}
 use Rattle.ev_scene.specs.Ids.{of_id, live}
 use Rattle.ev_scene.specs.Board.{Board, named, is_named, inside, ids_in, stage_of}
-use Rattle.ev_scene.specs.Change.{apply, drawn, written, fresh, color_of, fill_of, border_of}
+use Rattle.ev_scene.specs.Change.{apply, change_image, change_text, fresh, color_of, fill_of, border_of}
 use Rattle.ev_scene.specs.Edits.{effect, with_named, next_id, left, deleted, changed, shifted_by, shifted_all, moved, relaid, restacked, placed, rehomed, homed}
 use Rattle.ev_scene.specs.Given.{image_of, font_of, HasImage, HasFont, HasLoads, HoldsLoads}
 use Rattle.ev_scene.specs.ObjectLoads.{changed_at, with_image, with_font}
-use Rattle.ev_scene.specs.declared.drawing.Drawing.{Drawing}
-use Rattle.ev_scene.specs.declared.drawing.Drawing.TheVariants as drawing
-use Rattle.ev_scene.specs.declared.writing.Writing.{Writing}
-use Rattle.ev_scene.specs.declared.writing.Writing.TheVariants as writing
+use Rattle.ev_scene.specs.declared.image_change.ImageChange.{ImageChange}
+use Rattle.ev_scene.specs.declared.image_change.ImageChange.TheVariants as image_change
+use Rattle.ev_scene.specs.declared.text_change.TextChange.{TextChange}
+use Rattle.ev_scene.specs.declared.text_change.TextChange.TheVariants as text_change
 use Rattle.ev_scene.specs.declared.change.Change.{Change}
 use Rattle.ev_scene.specs.declared.change.Change.TheVariants as change
 use Rattle.ev_scene.proofs.Capturing.{holds_in_order}
@@ -100,36 +100,36 @@ module _ (P : Loaded Raster → Type 0) (Q : Loaded Glyphs → Type 0) where
   of_contents o h = record { image = h.0; font = h.1 }
 
   -- what a change of an image brings
-  abbrev Draws : Drawing → Type 0
-  Draws (drawing.Load loaded) = P loaded
+  abbrev Draws : ImageChange → Type 0
+  Draws (image_change.Load loaded) = P loaded
   Draws _ = Unit {0}
 
-  draws : (d : Drawing) (c : Content) → Draws d → Contents c → Contents (drawn d c)
+  draws : (d : ImageChange) (c : Content) → Draws d → Contents c → Contents (change_image d c)
   draws d (content.Text part) b h = h
-  draws (drawing.File key) (content.Image part) b h = (tt, tt)
-  draws (drawing.Load loaded) (content.Image part) b h = (b, tt)
+  draws (image_change.File key) (content.Image part) b h = (tt, tt)
+  draws (image_change.Load loaded) (content.Image part) b h = (b, tt)
   draws d other b h = h
 
   -- what a change of a text brings
-  abbrev Writes : Writing → Type 0
-  Writes (writing.Load loaded) = Q loaded
+  abbrev Writes : TextChange → Type 0
+  Writes (text_change.Load loaded) = Q loaded
   Writes _ = Unit {0}
 
-  writes : (w : Writing) (c : Content) → Writes w → Contents c → Contents (written w c)
+  writes : (w : TextChange) (c : Content) → Writes w → Contents c → Contents (change_text w c)
   writes w (content.Image part) b h = h
-  writes (writing.Font key) (content.Text part) b h = (tt, tt)
-  writes (writing.Load loaded) (content.Text part) b h = (tt, b)
+  writes (text_change.Font key) (content.Text part) b h = (tt, tt)
+  writes (text_change.Load loaded) (content.Text part) b h = (tt, b)
   writes w other b h = h
 
   -- what a change brings
   abbrev Brings : Change → Type 0
-  Brings (change.Draw d) = Draws d
-  Brings (change.Write w) = Writes w
+  Brings (change.Image d) = Draws d
+  Brings (change.Text w) = Writes w
   Brings _ = Unit {0}
 
   applies : (c : Change) (o : Object) → Brings c → H o → H (apply c o)
-  applies (change.Draw d) o b h = of_contents (apply (change.Draw d) o) (draws d o.content b (h.image, h.font))
-  applies (change.Write w) o b h = of_contents (apply (change.Write w) o) (writes w o.content b (h.image, h.font))
+  applies (change.Image d) o b h = of_contents (apply (change.Image d) o) (draws d o.content b (h.image, h.font))
+  applies (change.Text w) o b h = of_contents (apply (change.Text w) o) (writes w o.content b (h.image, h.font))
   applies other o b h = record { image = h.image; font = h.font }
 
   -- a new object has nothing from a load
@@ -158,15 +158,15 @@ module _ (P : Loaded Raster → Type 0) (Q : Loaded Glyphs → Type 0) where
 
     moves : (x y : ℤ) (o : Object) → H o → Each H (moved x y board o).objects
     moves x y o h = go (is_smart o) where
-      go : (b : Bool) → Each H (if b then shifted_all (x -ℤ o.rect.x) (y -ℤ o.rect.y) board o else changed (change.Place x y) board o).objects
+      go : (b : Bool) → Each H (if b then shifted_all (x -ℤ o.rect.x) (y -ℤ o.rect.y) board o else changed (change.Move x y) board o).objects
       go true = each_map H _ board.objects (shifts (x -ℤ o.rect.x) (y -ℤ o.rect.y) board o) each
-      go false = changes (change.Place x y) tt o h
+      go false = changes (change.Move x y) tt o h
 
     homes : (parent : Option ℕ) (o : Object) → H o → Each H (homed parent board o).objects
     homes parent o h = go (option_eq nat_eq o.parent parent) where
       go : (b : Bool) → Each H (if b then board else rehomed parent board o).objects
       go true = each
-      go false = changes (change.Enter parent) tt o h
+      go false = changes (change.Parent parent) tt o h
 
     -- a change of the object of a name
     changes_named : (name : List ℕ) (c : Change) → Brings c → Each H (with_named board name (changed c board)).objects
@@ -177,24 +177,24 @@ module _ (P : Loaded Raster → Type 0) (Q : Loaded Glyphs → Type 0) where
     edits (edit.Make name k) = each_end H board.objects _ each (none_made (next_id board) name k)
     edits (edit.Delete name) = each_named H board name (deleted board) each (λ o h. each_map H _ board.objects (leaves (inside board o)) each)
     edits (edit.Move name x y) = each_named H board name (moved x y board) each (moves x y)
-    edits (edit.Resize name w h) = changes_named name (change.Side w h) tt
-    edits (edit.Show name on) = changes_named name (change.Appear on) tt
-    edits (edit.Color name r g b a) = changes_named name (change.Paint (color_of r g b a)) tt
-    edits (edit.SetOp name op) = changes_named name (change.Treat op) tt
-    edits (edit.Layer name layer) = each_named H board name (relaid layer board) each (changes (change.Lift layer) tt)
+    edits (edit.Resize name w h) = changes_named name (change.Resize w h) tt
+    edits (edit.Show name on) = changes_named name (change.Show on) tt
+    edits (edit.Color name r g b a) = changes_named name (change.Color (color_of r g b a)) tt
+    edits (edit.SetOp name op) = changes_named name (change.Op op) tt
+    edits (edit.Layer name layer) = each_named H board name (relaid layer board) each (changes (change.Layer layer) tt)
     edits (edit.Raise name up) = each_named H board name (restacked up board) each (λ o h. each)
     edits (edit.Place name other above) = each_named H board name _ each (λ o h. each_named H board other (placed above board o) each (λ p k. each))
     edits (edit.Clip name clipper) = each_named H board name _ each (λ o h. each_named H board clipper (λ c. changed (change.Clip (Some c.id)) board o) each (λ c k. changes (change.Clip (Some c.id)) tt o h))
     edits (edit.Unclip name) = changes_named name (change.Clip None) tt
     edits (edit.Member name smart) = each_named H board name _ each (λ o h. each_named H board smart (λ s. homed (Some s.id) board o) each (λ s k. homes (Some s.id) o h))
     edits (edit.Free name) = each_named H board name (homed None board) each (homes None)
-    edits (edit.File name key) = changes_named name (change.Draw (drawing.File key)) tt
-    edits (edit.Font name key) = changes_named name (change.Write (writing.Font key)) tt
-    edits (edit.Say name text) = changes_named name (change.Write (writing.Say text.now)) tt
-    edits (edit.Fill name x y w h) = changes_named name (change.Draw (drawing.Fill (fill_of x y w h))) tt
-    edits (edit.Filled name) = changes_named name (change.Draw (drawing.Fill Filled)) tt
-    edits (edit.Border name l r t b) = changes_named name (change.Draw (drawing.Border (border_of l r t b))) tt
-    edits (edit.Center name on) = changes_named name (change.Draw (drawing.Center on)) tt
+    edits (edit.File name key) = changes_named name (change.Image (image_change.File key)) tt
+    edits (edit.Font name key) = changes_named name (change.Text (text_change.Font key)) tt
+    edits (edit.Say name text) = changes_named name (change.Text (text_change.Say text.now)) tt
+    edits (edit.Fill name x y w h) = changes_named name (change.Image (image_change.Fill (fill_of x y w h))) tt
+    edits (edit.Filled name) = changes_named name (change.Image (image_change.Fill Filled)) tt
+    edits (edit.Border name l r t b) = changes_named name (change.Image (image_change.Border (border_of l r t b))) tt
+    edits (edit.Center name on) = changes_named name (change.Image (image_change.Center on)) tt
 
     -- a change of the object of an id
     changes_at : (c : Change) → Brings c → (id : ℕ) → Each H (changed_at c board id).objects
@@ -208,12 +208,12 @@ edits_hold P Q board e holds = of_each (HasLoads P Q) (effect board e).objects (
 
 pub image_holds : (P : Loaded Raster → Type 0) (Q : Loaded Glyphs → Type 0) (board : Board) (id number : ℕ) (image : Raster) → HoldsLoads P Q board → P (record { number = number; value = image }) → HoldsLoads P Q (with_image board id number image)
 image_holds P Q board id number image holds new =
-    let load : Change = change.Draw (drawing.Load (record { number = number; value = image })) in
+    let load : Change = change.Image (image_change.Load (record { number = number; value = image })) in
     of_each (HasLoads P Q) (with_image board id number image).objects (changes_at P Q board (each_of (HasLoads P Q) board.objects holds) load new id)
 
 pub font_holds : (P : Loaded Raster → Type 0) (Q : Loaded Glyphs → Type 0) (board : Board) (id number : ℕ) (font : Glyphs) → HoldsLoads P Q board → Q (record { number = number; value = font }) → HoldsLoads P Q (with_font board id number font)
 font_holds P Q board id number font holds new =
-    let load : Change = change.Write (writing.Load (record { number = number; value = font })) in
+    let load : Change = change.Text (text_change.Load (record { number = number; value = font })) in
     of_each (HasLoads P Q) (with_font board id number font).objects (changes_at P Q board (each_of (HasLoads P Q) board.objects holds) load new id)
 
 pub stage_holds : (P : Loaded Raster → Type 0) (Q : Loaded Glyphs → Type 0) (board : Board) → HoldsLoads P Q board → All (HasLoads P Q) (stage_of board).objects

@@ -33,8 +33,8 @@ not_passed false made e = refl
 pub told_places : (x y : ℤ) → FitsSigned w64 x → FitsSigned w64 y → (is_place x && is_place y) ≡ (is_place (to_z w64 (of_z w64 x)) && is_place (to_z w64 (of_z w64 y)))
 told_places x y fx fy = sym (ap₂ (λ x y. is_place x && is_place y) (to_z-of_z w64 x fx) (to_z-of_z w64 y fy))
 
-pub told_place : (x y : ℤ) → FitsSigned w64 x → FitsSigned w64 y → change.Place (to_z w64 (of_z w64 x)) (to_z w64 (of_z w64 y)) ≡ change.Place x y
-told_place x y fx fy = ap₂ change.Place (to_z-of_z w64 x fx) (to_z-of_z w64 y fy)
+pub told_place : (x y : ℤ) → FitsSigned w64 x → FitsSigned w64 y → change.Move (to_z w64 (of_z w64 x)) (to_z w64 (of_z w64 y)) ≡ change.Move x y
+told_place x y fx fy = ap₂ change.Move (to_z-of_z w64 x fx) (to_z-of_z w64 y fy)
 
 there_and_back : (at to : ℤ) → at +ℤ (to -ℤ at) ≡ to
 there_and_back at to = omega (arith, ints)
@@ -81,7 +81,7 @@ module _ (board : Board) (name : List ℕ) (o : Object) (is : Some o ≡ named b
 
     its_after : after ≡ shifted_all dx dy board o
     its_after =
-        after_is ∙ ap (λ b. if b then shifted_all (x -ℤ o.rect.x) (y -ℤ o.rect.y) board o else changed (change.Place x y) board o) smart
+        after_is ∙ ap (λ b. if b then shifted_all (x -ℤ o.rect.x) (y -ℤ o.rect.y) board o else changed (change.Move x y) board o) smart
         ∙ sym (ap₂ (λ dx dy. shifted_all dx dy board o) ex ey)
 
     go : (result : Result (Unit {0}) Refusal) → OnOk result ((p : Object) → of_id board.objects o.id ≡ Some p → (list_all (may_shift dx dy) (objects_in board p) ≡ true) × (new ≡ shifted_all dx dy board p))
@@ -115,12 +115,12 @@ module _ (board : Board) (name : List ℕ) (o : Object) (is : Some o ≡ named b
         verdict_is ∙ ap (λ b. unless (if b then list_all (may_shift (x -ℤ o.rect.x) (y -ℤ o.rect.y)) (objects_in board o) else is_place x && is_place y) refusal.Range) plain
         ∙ ap (λ b. unless b refusal.Range) places
 
-    pub one_answers : (c : Change) (objects : List (Option Object)) → c ≡ change.Place x y → of_id board.objects o.id ≡ Some o → objects ≡ put board.objects o.id (option_map (apply c) (of_id board.objects o.id))
+    pub one_answers : (c : Change) (objects : List (Option Object)) → c ≡ change.Move x y → of_id board.objects o.id ≡ Some o → objects ≡ put board.objects o.id (option_map (apply c) (of_id board.objects o.id))
         → (verdict ≡ None) × (record board { objects = objects } ≡ after)
     one_answers c objects e there f = (
       one_verdict,
       changed_is board o c objects there f ∙ ap (λ c. changed c board o) e
-          ∙ sym (after_is ∙ ap (λ b. if b then shifted_all (x -ℤ o.rect.x) (y -ℤ o.rect.y) board o else changed (change.Place x y) board o) plain),
+          ∙ sym (after_is ∙ ap (λ b. if b then shifted_all (x -ℤ o.rect.x) (y -ℤ o.rect.y) board o else changed (change.Move x y) board o) plain),
     )
 
     pub one_refused : (result : Result (Unit {0}) Refusal) (new : Board) → IsErrAnd result (λ cause. cause ≡ refusal.NoMemory) → new ≡ board → Answers verdict board after result new

@@ -4,7 +4,7 @@ use Rattle.std.proofs.lemmas.Bool.Decides.{eqb_tells, leb_tells}
 use Rattle.std.proofs.lemmas.List.{length-map}
 use Rattle.ev_state.specs.Held.{Held}
 use Rattle.ev_model.specs.declared.object.Object.{Object}
-use Rattle.ev_stack.specs.Order.{IsOrder}
+use Rattle.ev_stack.specs.LayerOrder.{IsOrder}
 use Rattle.ev_groups.specs.Groups.{group}
 use Rattle.ev_scene.specs.Board.{values_of}
 

@@ -7,11 +7,11 @@ use Rattle.std.specs.Option.{option_map, option_and_then}
 use Rattle.std.proofs.lemmas.Option.{same_Some}
 use Rattle.std.proofs.Math.Bool.{true≢false}
 use Rattle.ev_model.specs.declared.object.Object.{Object}
-use Rattle.ev_stack.specs.Order.{layer_in, is_in, put_top, without, IsApart, IsDistinct}
+use Rattle.ev_stack.specs.LayerOrder.{layer_in, is_in, put_top, without, IsApart, IsDistinct}
 use Rattle.ev_stack.proofs.Lists.{neq-eqb}
 use Rattle.ev_groups.specs.Groups.{place, group, with_group}
 use Rattle.ev_links.specs.Ties.{Ties, parent_at, IsSound}
-use Rattle.ev_links.specs.Calls.{with_parent}
+use Rattle.ev_links.specs.LinkCalls.{with_parent}
 use Rattle.ev_links.proofs.Sound.{parent_there}
 use Rattle.ev_scene.specs.Ids.{of_id, put}
 use Rattle.ev_scene.specs.Change.{apply}
@@ -76,7 +76,7 @@ module _ {w h : ℕ} {objects : List (Option Object)} {groups : List (List (ℕ 
       ∙ ap (λ groups'. with_group groups' to (group groups to)) pushed ∙ set-set groups (place to) (put_top (group groups to) id o.layer) (group groups to) ∙ set-get_or groups (place to) []
 
   -- taken out where it stood, it has gone to the other parent
-  pub gone : (objects' : List (Option Object)) (groups'' : List (List (ℕ × ℤ))) → IsDistinct (group groups' o.parent) → objects' ≡ put objects id (option_map (apply (change.Enter to)) (of_id objects id))
+  pub gone : (objects' : List (Option Object)) (groups'' : List (List (ℕ × ℤ))) → IsDistinct (group groups' o.parent) → objects' ≡ put objects id (option_map (apply (change.Parent to)) (of_id objects id))
       → groups'' ≡ with_group groups' o.parent (without (group groups' o.parent) id) → IsWhole (record { w = w; h = h; objects = objects'; groups = groups'' }) (with_parent ties id to)
   gone objects' groups'' distinct e f =
       entered whole id o to objects' groups'' (with_parent ties id to) there known other (subst IsDistinct same_from distinct) apart e

@@ -12,7 +12,7 @@ use Rattle.std.proofs.lemmas.List.Elements.{filter-append, All-filter}
 use Rattle.ev_state.specs.Held.{Held}
 use Rattle.ev_model.specs.Up.{is_clipped_by}
 use Rattle.ev_model.specs.declared.object.Object.{Object}
-use Rattle.ev_stack.specs.Order.{layer_in, ids_above, ids_from}
+use Rattle.ev_stack.specs.LayerOrder.{layer_in, ids_above, ids_from}
 use Rattle.ev_groups.specs.Groups.{group, siblings}
 use Rattle.ev_links.specs.Ties.{Ties, clipper_at, has, IsSound, Counts}
 use Rattle.ev_links.proofs.Counts.{Counts-none}

@@ -4,11 +4,11 @@ use Rattle.std.specs.Ordering.{int_eq}
 use Rattle.std.specs.Cmp.{signed_Decides}
 use Rattle.std.proofs.lemmas.Option.{none-some}
 use Rattle.std.proofs.lemmas.Bool.Decides.{nat_tests, eqb_tells}
-use Rattle.ev_stack.specs.Order.{layer_in, IsApart, IsDistinct, without, put_top, put_bottom, put_above, put_below, to_top}
+use Rattle.ev_stack.specs.LayerOrder.{layer_in, IsApart, IsDistinct, without, put_top, put_bottom, put_above, put_below, to_top}
 use Rattle.std.specs.Result.{result_err}
 use Rattle.ev_stack.specs.declared.siblings.StackErr.{StackErr}
 use Rattle.ev_stack.specs.declared.siblings.StackErr.TheVariants.{Unknown, Itself, Layer}
-use Rattle.ev_stack.specs.Calls.{beside_fault, place_fault, raised, lowered, relayered, placed_above, placed_below}
+use Rattle.ev_stack.specs.StackCalls.{beside_fault, place_fault, raised, lowered, relayered, placed_above, placed_below}
 use Rattle.ev_stack.proofs.Lists.{apart_without, layer_in_absent, layer_in-without}
 
 -- one more entry, in front or behind another

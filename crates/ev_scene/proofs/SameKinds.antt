@@ -23,18 +23,18 @@ use Rattle.ev_scene.specs.Kinds.{kind_at, KeepsKinds, is_delete}
 use Rattle.ev_scene.specs.declared.cast.Cast.{Cast}
 use Rattle.ev_scene.specs.declared.change.Change.{Change}
 use Rattle.ev_scene.specs.declared.change.Change.TheVariants as change
-use Rattle.ev_scene.specs.declared.drawing.Drawing.TheVariants as drawing
-use Rattle.ev_scene.specs.declared.writing.Writing.TheVariants as writing
+use Rattle.ev_scene.specs.declared.image_change.ImageChange.TheVariants as image_change
+use Rattle.ev_scene.specs.declared.text_change.TextChange.TheVariants as text_change
 use Rattle.ev_scene.proofs.Places.{at_place, of_id_suc, of_id_put, of_id_end, of_id_map, past_end}
-use Rattle.ev_scene.proofs.Standing.{drawn_kind, written_kind}
+use Rattle.ev_scene.proofs.Standing.{image_change_kind, text_change_kind}
 
 abbrev kind_in : Option Object → Option Kind
 kind_in x = option_map (λ o. kind_of o.content) x
 
 -- a change leaves the kind
 change_kind : (c : Change) (o : Object) → kind_of (apply c o).content ≡ kind_of o.content
-change_kind (change.Draw d) o = drawn_kind d o.content
-change_kind (change.Write w) o = written_kind w o.content
+change_kind (change.Image d) o = image_change_kind d o.content
+change_kind (change.Text w) o = text_change_kind w o.content
 change_kind other o = refl
 
 -- where each object stands under its id, so does the object of a name
@@ -84,15 +84,15 @@ module _ (scene : Board) (own : (name : List ℕ) (o : Object) → named scene.o
 
   keeps_moved : (x y : ℤ) (o : Object) → of_id scene.objects o.id ≡ Some o → KeepsKinds scene (moved x y scene o)
   keeps_moved x y o at = go (is_smart o) where
-    go : (b : Bool) → KeepsKinds scene (if b then shifted_all (x -ℤ o.rect.x) (y -ℤ o.rect.y) scene o else changed (change.Place x y) scene o)
+    go : (b : Bool) → KeepsKinds scene (if b then shifted_all (x -ℤ o.rect.x) (y -ℤ o.rect.y) scene o else changed (change.Move x y) scene o)
     go true = keeps_shifted (x -ℤ o.rect.x) (y -ℤ o.rect.y) o
-    go false = keeps_changed (change.Place x y) o at
+    go false = keeps_changed (change.Move x y) o at
 
   keeps_homed : (parent : Option ℕ) (o : Object) → of_id scene.objects o.id ≡ Some o → KeepsKinds scene (homed parent scene o)
   keeps_homed parent o at = go (option_eq nat_eq o.parent parent) where
     go : (b : Bool) → KeepsKinds scene (if b then scene else rehomed parent scene o)
     go true = λ id kind is. is
-    go false = keeps_changed (change.Enter parent) o at
+    go false = keeps_changed (change.Parent parent) o at
 
   keeps_made : (o : Object) → KeepsKinds scene (made scene o)
   keeps_made o id kind is = ap kind_in (of_id_end scene.objects id (Some o)) ∙ go (id == length scene.objects + 1) refl where
@@ -108,24 +108,24 @@ module _ (scene : Board) (own : (name : List ℕ) (o : Object) → named scene.o
   keeps_effect (edit.Make name kind) other = keeps_made (fresh (next_id scene) name kind)
   keeps_effect (edit.Delete name) other = absurd (true≢false other)
   keeps_effect (edit.Move name x y) other = keeps_named name (moved x y scene) (keeps_moved x y)
-  keeps_effect (edit.Resize name w h) other = keeps_one (change.Side w h) name
-  keeps_effect (edit.Show name on) other = keeps_one (change.Appear on) name
-  keeps_effect (edit.Color name r g b a) other = keeps_one (change.Paint (color_of r g b a)) name
-  keeps_effect (edit.SetOp name op) other = keeps_one (change.Treat op) name
-  keeps_effect (edit.Layer name layer) other = keeps_named name _ (keeps_changed (change.Lift layer))
+  keeps_effect (edit.Resize name w h) other = keeps_one (change.Resize w h) name
+  keeps_effect (edit.Show name on) other = keeps_one (change.Show on) name
+  keeps_effect (edit.Color name r g b a) other = keeps_one (change.Color (color_of r g b a)) name
+  keeps_effect (edit.SetOp name op) other = keeps_one (change.Op op) name
+  keeps_effect (edit.Layer name layer) other = keeps_named name _ (keeps_changed (change.Layer layer))
   keeps_effect (edit.Raise name up) other = keeps_named name _ (λ o there id kind at. at)
   keeps_effect (edit.Place name next above) other = keeps_named name _ (λ o there. keeps_named next _ (λ p its id kind at. at))
   keeps_effect (edit.Clip name clipper) other = keeps_named name _ (λ o there. keeps_named clipper _ (λ c its. keeps_changed (change.Clip (Some c.id)) o there))
   keeps_effect (edit.Unclip name) other = keeps_one (change.Clip None) name
   keeps_effect (edit.Member name smart) other = keeps_named name _ (λ o there. keeps_named smart _ (λ s its. keeps_homed (Some s.id) o there))
   keeps_effect (edit.Free name) other = keeps_named name _ (keeps_homed None)
-  keeps_effect (edit.File name key) other = keeps_one (change.Draw (drawing.File key)) name
-  keeps_effect (edit.Font name key) other = keeps_one (change.Write (writing.Font key)) name
-  keeps_effect (edit.Say name text) other = keeps_one (change.Write (writing.Say text.now)) name
-  keeps_effect (edit.Fill name x y w h) other = keeps_one (change.Draw (drawing.Fill (fill_of x y w h))) name
-  keeps_effect (edit.Filled name) other = keeps_one (change.Draw (drawing.Fill Filled)) name
-  keeps_effect (edit.Border name l r t b) other = keeps_one (change.Draw (drawing.Border (border_of l r t b))) name
-  keeps_effect (edit.Center name on) other = keeps_one (change.Draw (drawing.Center on)) name
+  keeps_effect (edit.File name key) other = keeps_one (change.Image (image_change.File key)) name
+  keeps_effect (edit.Font name key) other = keeps_one (change.Text (text_change.Font key)) name
+  keeps_effect (edit.Say name text) other = keeps_one (change.Text (text_change.Say text.now)) name
+  keeps_effect (edit.Fill name x y w h) other = keeps_one (change.Image (image_change.Fill (fill_of x y w h))) name
+  keeps_effect (edit.Filled name) other = keeps_one (change.Image (image_change.Fill Filled)) name
+  keeps_effect (edit.Border name l r t b) other = keeps_one (change.Image (image_change.Border (border_of l r t b))) name
+  keeps_effect (edit.Center name on) other = keeps_one (change.Image (image_change.Center on)) name
 
   pub keeps_edit : {T : Type 0} (new : Board) (e : Edit) (result : Result T Refusal) → Edits scene e result new → is_delete e ≡ false → KeepsKinds scene new
   keeps_edit new e (Ok done) edits other = subst (λ new. KeepsKinds scene new) (sym edits.1) (keeps_effect e other)

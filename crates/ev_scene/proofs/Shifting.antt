@@ -112,7 +112,7 @@ not_shifted board o = ap (λ objects. record board { objects = objects }) (all b
   by_nothing at = omega (arith, ints)
 
   one : (p : Object) → shifted_by (pos 0) (pos 0) p ≡ p
-  one p = ap₂ (λ x y. apply (change.Place x y) p) (by_nothing p.rect.x) (by_nothing p.rect.y)
+  one p = ap₂ (λ x y. apply (change.Move x y) p) (by_nothing p.rect.x) (by_nothing p.rect.y)
 
   choice : (b : Bool) (p : Object) → (if b then shifted_by (pos 0) (pos 0) p else p) ≡ p
   choice true p = one p
@@ -127,7 +127,7 @@ not_shifted board o = ap (λ objects. record board { objects = objects }) (all b
   all (s ∷ slots) = ap₂ ◌∷◌ (slot s) (all slots)
 
 -- what moves ties and places no object
-pub place_stands : (x y : ℤ) (o : Object) → IsSameStand o (apply (change.Place x y) o)
+pub place_stands : (x y : ℤ) (o : Object) → IsSameStand o (apply (change.Move x y) o)
 place_stands x y o = record { id = refl; layer = refl; parent = refl; tie = refl; limits = λ l. record { layer_low = l.layer_low; layer_high = l.layer_high; content = l.content } }
 
 module _ {w h : ℕ} {objects : List (Option Object)} {groups : List (List (ℕ × ℤ))} {ties : Ties} (whole : IsWhole (record { w = w; h = h; objects = objects; groups = groups }) ties) where

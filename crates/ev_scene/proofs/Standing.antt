@@ -16,27 +16,27 @@ use Rattle.ev_model.specs.Limits.{IsContent, IsObject}
 use Rattle.ev_model.specs.declared.content.Content.{Content}
 use Rattle.ev_model.specs.declared.content.Content.TheVariants as content
 use Rattle.ev_model.specs.declared.object.Object.{Object}
-use Rattle.ev_stack.specs.Order.{layer_in, put_top, without, IsApart, IsDistinct}
-use Rattle.ev_stack.specs.Calls.{place_fault, raised, lowered, relayered, placed_above, placed_below}
+use Rattle.ev_stack.specs.LayerOrder.{layer_in, put_top, without, IsApart, IsDistinct}
+use Rattle.ev_stack.specs.StackCalls.{place_fault, raised, lowered, relayered, placed_above, placed_below}
 use Rattle.ev_groups.specs.Groups.{place, group, with_group}
 use Rattle.ev_model.specs.declared.content.Kind.{Kind}
 use Rattle.ev_model.specs.declared.content.Kind.TheVariants.{Rect, Image, Text, Smart}
 use Rattle.ev_links.specs.Ties.{Tie, Ties, alone, released, parent_at, clipper_at, IsSound}
 use Rattle.ev_scene.specs.Ids.{of_id, put, value_of}
 use Rattle.ev_scene.specs.Board.{values_of}
-use Rattle.ev_scene.specs.Change.{apply, is_layer, fresh, drawn, IsDrawing, written, IsWriting, IsLook, IsFit}
+use Rattle.ev_scene.specs.Change.{apply, is_layer, fresh, change_image, IsImageChange, change_text, IsTextChange, IsLook, IsFit}
 use Rattle.ev_scene.specs.ObjectTies.{tie_of, layer_at}
 use Rattle.ev_scene.specs.Whole.{IsWhole}
-use Rattle.ev_scene.specs.declared.drawing.Drawing.{Drawing}
-use Rattle.ev_scene.specs.declared.drawing.Drawing.TheVariants as drawing
-use Rattle.ev_scene.specs.declared.writing.Writing.{Writing}
-use Rattle.ev_scene.specs.declared.writing.Writing.TheVariants as writing
+use Rattle.ev_scene.specs.declared.image_change.ImageChange.{ImageChange}
+use Rattle.ev_scene.specs.declared.image_change.ImageChange.TheVariants as image_change
+use Rattle.ev_scene.specs.declared.text_change.TextChange.{TextChange}
+use Rattle.ev_scene.specs.declared.text_change.TextChange.TheVariants as text_change
 use Rattle.ev_scene.specs.declared.change.Change.{Change}
 use Rattle.ev_scene.specs.declared.change.Change.TheVariants as change
 use Rattle.ev_scene.proofs.Apart.{apart_absent}
 use Rattle.ev_scene.proofs.Restacking.{layer_in-raised, layer_in-lowered, layer_in-relayered, layer_in-placed_above, layer_in-placed_below, layer_in-gone, layer_in-put_top, still_beside}
 use Rattle.std.specs.Cmp.{nat_cmp_total}
-use Rattle.ev_links.specs.Calls.{with_clipper, with_parent, put_tie, Drops, known_fault}
+use Rattle.ev_links.specs.LinkCalls.{with_clipper, with_parent, put_tie, Drops, known_fault}
 use Rattle.ev_links.specs.declared.refusal.LinkErr.{LinkErr}
 use Rattle.ev_links.specs.declared.refusal.LinkErr.TheVariants.{Unknown}
 use Rattle.ev_links.proofs.Views.{same_test}
@@ -44,9 +44,9 @@ use Rattle.ev_scene.proofs.Places.{of_id_suc, of_id_put, of_id_end, some_choice,
 
 -- a look is in range
 pub look_fits : (c : Change) → IsLook c → IsFit c
-look_fits (change.Lift layer) look = absurd look
+look_fits (change.Layer layer) look = absurd look
 look_fits (change.Clip clipper) look = absurd look
-look_fits (change.Enter parent) look = absurd look
+look_fits (change.Parent parent) look = absurd look
 look_fits other look = look
 
 -- a look leaves all that ties and places an object
@@ -58,44 +58,44 @@ pub record IsSameStand (o o' : Object) : Type 0 where
   pub limits : IsObject o → IsObject o'
 
 -- another way to draw leaves the kind, and keeps the limits
-pub drawn_kind : (d : Drawing) (content : Content) → kind_of (drawn d content) ≡ kind_of content
-drawn_kind d (content.Image part) = refl
-drawn_kind d other = refl
+pub image_change_kind : (d : ImageChange) (content : Content) → kind_of (change_image d content) ≡ kind_of content
+image_change_kind d (content.Image part) = refl
+image_change_kind d other = refl
 
-drawn_limits : (d : Drawing) (content : Content) → IsDrawing d → IsContent content → IsContent (drawn d content)
-drawn_limits d (content.Text part) fits old = old
-drawn_limits (drawing.Fill fill) (content.Image part) fits old = (fits, old.1)
-drawn_limits (drawing.Border border) (content.Image part) fits old = (old.0, fits)
-drawn_limits d other fits old = old
+image_change_limits : (d : ImageChange) (content : Content) → IsImageChange d → IsContent content → IsContent (change_image d content)
+image_change_limits d (content.Text part) fits old = old
+image_change_limits (image_change.Fill fill) (content.Image part) fits old = (fits, old.1)
+image_change_limits (image_change.Border border) (content.Image part) fits old = (old.0, fits)
+image_change_limits d other fits old = old
 
 -- another text or font leaves the kind, and keeps the limits
-pub written_kind : (w : Writing) (content : Content) → kind_of (written w content) ≡ kind_of content
-written_kind w (content.Text part) = refl
-written_kind w other = refl
+pub text_change_kind : (w : TextChange) (content : Content) → kind_of (change_text w content) ≡ kind_of content
+text_change_kind w (content.Text part) = refl
+text_change_kind w other = refl
 
-written_limits : (w : Writing) (content : Content) → IsWriting w → IsContent content → IsContent (written w content)
-written_limits w (content.Image part) fits old = old
-written_limits (writing.Say text) (content.Text part) fits old = fits
-written_limits w other fits old = old
+text_change_limits : (w : TextChange) (content : Content) → IsTextChange w → IsContent content → IsContent (change_text w content)
+text_change_limits w (content.Image part) fits old = old
+text_change_limits (text_change.Say text) (content.Text part) fits old = fits
+text_change_limits w other fits old = old
 
 pub look_stands : (c : Change) (o : Object) → IsLook c → IsSameStand o (apply c o)
-look_stands (change.Draw d) o look = record {
+look_stands (change.Image d) o look = record {
   id = refl;
   layer = refl;
   parent = refl;
-  tie = ap (λ kind. record { kind = kind; clipper = o.clipper; parent = o.parent }) (drawn_kind d o.content);
-  limits = λ l. record { layer_low = l.layer_low; layer_high = l.layer_high; content = drawn_limits d o.content look l.content };
+  tie = ap (λ kind. record { kind = kind; clipper = o.clipper; parent = o.parent }) (image_change_kind d o.content);
+  limits = λ l. record { layer_low = l.layer_low; layer_high = l.layer_high; content = image_change_limits d o.content look l.content };
 }
-look_stands (change.Write w) o look = record {
+look_stands (change.Text w) o look = record {
   id = refl;
   layer = refl;
   parent = refl;
-  tie = ap (λ kind. record { kind = kind; clipper = o.clipper; parent = o.parent }) (written_kind w o.content);
-  limits = λ l. record { layer_low = l.layer_low; layer_high = l.layer_high; content = written_limits w o.content look l.content };
+  tie = ap (λ kind. record { kind = kind; clipper = o.clipper; parent = o.parent }) (text_change_kind w o.content);
+  limits = λ l. record { layer_low = l.layer_low; layer_high = l.layer_high; content = text_change_limits w o.content look l.content };
 }
-look_stands (change.Lift layer) o look = absurd look
+look_stands (change.Layer layer) o look = absurd look
 look_stands (change.Clip clipper) o look = absurd look
-look_stands (change.Enter parent) o look = absurd look
+look_stands (change.Parent parent) o look = absurd look
 look_stands other o look = record { id = refl; layer = refl; parent = refl; tie = refl; limits = λ l. record { layer_low = l.layer_low; layer_high = l.layer_high; content = l.content } }
 
 layer_low : (layer : ℤ) → is_layer layer ≡ true → neg_ℤ (pos 32768) ≤ℤ layer
@@ -234,17 +234,17 @@ module _ {w h : ℕ} {objects : List (Option Object)} {groups : List (List (ℕ 
 
   -- an object in another layer of its parent
   pub lifted : (id : ℕ) (o : Object) (layer : ℤ) (objects' : List (Option Object)) (groups' : List (List (ℕ × ℤ))) → of_id objects id ≡ Some o → is_layer layer ≡ true → IsDistinct (group groups o.parent)
-      → objects' ≡ put objects id (option_map (apply (change.Lift layer)) (of_id objects id)) → groups' ≡ with_group groups o.parent (relayered (group groups o.parent) id layer) → IsWhole (record { w = w; h = h; objects = objects'; groups = groups' }) ties
+      → objects' ≡ put objects id (option_map (apply (change.Layer layer)) (of_id objects id)) → groups' ≡ with_group groups o.parent (relayered (group groups o.parent) id layer) → IsWhole (record { w = w; h = h; objects = objects'; groups = groups' }) ties
   lifted id o layer objects' groups' there fits distinct e f =
       let old : IsObject o = whole.limits id o there in
-      let new : Object = apply (change.Lift layer) o in
+      let new : Object = apply (change.Layer layer) o in
       let limits' : IsObject new = record { layer_low = layer_low layer fits; layer_high = layer_high layer fits; content = old.content } in
       let P : List (Option Object) → List (List (ℕ × ℤ)) → Type 0 = λ objects groups. IsWhole (record { w = w; h = h; objects = objects; groups = groups }) ties in
-      subst (λ groups. P objects' groups) (sym f) (subst (λ objects. P objects (with_group groups o.parent (relayered (group groups o.parent) id layer))) (sym (e ∙ ap (λ slot. put objects id (option_map (apply (change.Lift layer)) slot)) there))
+      subst (λ groups. P objects' groups) (sym f) (subst (λ objects. P objects (with_group groups o.parent (relayered (group groups o.parent) id layer))) (sym (e ∙ ap (λ slot. put objects id (option_map (apply (change.Layer layer)) slot)) there))
       (replaced id o new there (whole.own id o there) limits' (with_group groups o.parent (relayered (group groups o.parent) id layer)) ties (length-set groups (place o.parent) (relayered (group groups o.parent) id layer))
       (λ at q. layers at q) (same_ties id o new there (whole.own id o there) limits' refl)))
     where
-      layers : (at q : ℕ) → layer_in (get_or (with_group groups o.parent (relayered (group groups o.parent) id layer)) at []) q ≡ (if q == id then layer_at at (apply (change.Lift layer) o) else layer_in (get_or groups at []) q)
+      layers : (at q : ℕ) → layer_in (get_or (with_group groups o.parent (relayered (group groups o.parent) id layer)) at []) q ≡ (if q == id then layer_at at (apply (change.Layer layer) o) else layer_in (get_or groups at []) q)
       layers at q = ap (λ g. layer_in g q) (get_set groups (place o.parent) at (relayered (group groups o.parent) id layer) [] (has_group id o there)) ∙ elim (eqb_tells at (place o.parent)) [
         | inl here ↦ rw here.0 (layer_in-relayered (group groups o.parent) id o.layer (stands_in id o there) distinct layer q
             ∙ ap₂ (λ mine other. if q == id then mine else other) (own_layer at here.1) (ap (λ at. layer_in (get_or groups at []) q) (sym here.1)))
@@ -253,10 +253,10 @@ module _ {w h : ℕ} {objects : List (Option Object)} {groups : List (List (ℕ 
           | inr differ ↦ rw differ.0 refl
         ])
       ] where
-        own_layer : (at : ℕ) → at ≡ place o.parent → Some layer ≡ layer_at at (apply (change.Lift layer) o)
+        own_layer : (at : ℕ) → at ≡ place o.parent → Some layer ≡ layer_at at (apply (change.Layer layer) o)
         own_layer at here = let same : (place o.parent == at) ≡ true = grind (arith, nat_tests, here) in ap (λ b. if b then Some layer else None) (sym same)
 
-        elsewhere : (at : ℕ) → at ≢ place o.parent → layer_at at o ≡ layer_at at (apply (change.Lift layer) o)
+        elsewhere : (at : ℕ) → at ≢ place o.parent → layer_at at o ≡ layer_at at (apply (change.Layer layer) o)
         elsewhere at away = let differ : (place o.parent == at) ≡ false = grind (arith, nat_tests, away) in rw differ refl
 
   -- an object with another clipper
@@ -278,37 +278,37 @@ module _ {w h : ℕ} {objects : List (Option Object)} {groups : List (List (ℕ 
   -- an object that goes from one parent to another: its group and its ties change
   pub entered : (id : ℕ) (o : Object) (to : Option ℕ) (objects' : List (Option Object)) (groups' : List (List (ℕ × ℤ))) (ties' : Ties) → of_id objects id ≡ Some o → place to < length groups → place o.parent ≢ place to
       → IsDistinct (group groups o.parent) → IsApart id (group groups to)
-      → objects' ≡ put objects id (option_map (apply (change.Enter to)) (of_id objects id))
+      → objects' ≡ put objects id (option_map (apply (change.Parent to)) (of_id objects id))
       → groups' ≡ with_group (with_group groups to (put_top (group groups to) id o.layer)) o.parent (without (group groups o.parent) id)
       → ties' ≡ with_parent ties id to → IsWhole (record { w = w; h = h; objects = objects'; groups = groups' }) ties'
   entered id o to objects' groups' ties' there known other distinct apart e f g =
       let old : IsObject o = whole.limits id o there in
-      let new : Object = apply (change.Enter to) o in
+      let new : Object = apply (change.Parent to) o in
       let limits' : IsObject new = record { layer_low = old.layer_low; layer_high = old.layer_high; content = old.content } in
       let mid : List (List (ℕ × ℤ)) = with_group groups to (put_top (group groups to) id o.layer) in
       let after : List (List (ℕ × ℤ)) = with_group mid o.parent (without (group groups o.parent) id) in
       let P : List (Option Object) → List (List (ℕ × ℤ)) → Ties → Type 0 = λ objects groups ties. IsWhole (record { w = w; h = h; objects = objects; groups = groups }) ties in
       subst (λ ties. P objects' groups' ties) (sym g) (subst (λ groups. P objects' groups (with_parent ties id to)) (sym f)
-      (subst (λ objects. P objects after (with_parent ties id to)) (sym (e ∙ ap (λ slot. put objects id (option_map (apply (change.Enter to)) slot)) there))
+      (subst (λ objects. P objects after (with_parent ties id to)) (sym (e ∙ ap (λ slot. put objects id (option_map (apply (change.Parent to)) slot)) there))
       (replaced id o new there (whole.own id o there) limits' after (with_parent ties id to)
       (length-set mid (place o.parent) (without (group groups o.parent) id) ∙ length-set groups (place to) (put_top (group groups to) id o.layer))
       (λ at q. layers at q) (λ q. tied q))))
     where
-      tied : (q : ℕ) → get (with_parent ties id to) q ≡ (if q == id then Some (tie_of (apply (change.Enter to) o)) else get ties q)
+      tied : (q : ℕ) → get (with_parent ties id to) q ≡ (if q == id then Some (tie_of (apply (change.Parent to) o)) else get ties q)
       tied q = ap (λ tie. get (put_tie ties id (option_map (λ (tie : Tie). record tie { parent = to }) tie)) q) (whole.tied id ∙ ap (option_map tie_of) there)
-          ∙ get_put_tie ties id (tie_of (apply (change.Enter to) o)) q
+          ∙ get_put_tie ties id (tie_of (apply (change.Parent to) o)) q
 
-      from : (at q : ℕ) → at ≡ place o.parent → layer_in (without (group groups o.parent) id) q ≡ (if q == id then layer_at at (apply (change.Enter to) o) else layer_in (get_or groups at []) q)
+      from : (at q : ℕ) → at ≡ place o.parent → layer_in (without (group groups o.parent) id) q ≡ (if q == id then layer_at at (apply (change.Parent to) o) else layer_in (get_or groups at []) q)
       from at q here =
           let away : (place to == at) ≡ false = grind (arith, nat_tests, here, other) in
           layer_in-gone (group groups o.parent) id q distinct ∙ ap₂ (λ mine other. if q == id then mine else other) (ap (λ b. if b then Some o.layer else None) (sym away)) (ap (λ at. layer_in (get_or groups at []) q) (sym here))
 
-      into : (at q : ℕ) → at ≡ place to → layer_in (put_top (group groups to) id o.layer) q ≡ (if q == id then layer_at at (apply (change.Enter to) o) else layer_in (get_or groups at []) q)
+      into : (at q : ℕ) → at ≡ place to → layer_in (put_top (group groups to) id o.layer) q ≡ (if q == id then layer_at at (apply (change.Parent to) o) else layer_in (get_or groups at []) q)
       into at q here =
           let same : (place to == at) ≡ true = grind (arith, nat_tests, here) in
           layer_in-put_top (group groups to) id o.layer q apart ∙ ap₂ (λ mine other. if q == id then mine else other) (ap (λ b. if b then Some o.layer else None) (sym same)) (ap (λ at. layer_in (get_or groups at []) q) (sym here))
 
-      elsewhere : (at q : ℕ) → at ≢ place o.parent → at ≢ place to → layer_in (get_or groups at []) q ≡ (if q == id then layer_at at (apply (change.Enter to) o) else layer_in (get_or groups at []) q)
+      elsewhere : (at q : ℕ) → at ≢ place o.parent → at ≢ place to → layer_in (get_or groups at []) q ≡ (if q == id then layer_at at (apply (change.Parent to) o) else layer_in (get_or groups at []) q)
       elsewhere at q far near = elim (eqb_tells q id) [
         | inl same ↦
             let gone : (place o.parent == at) ≡ false = grind (arith, nat_tests, far) in
@@ -318,7 +318,7 @@ module _ {w h : ℕ} {objects : List (Option Object)} {groups : List (List (ℕ 
       ]
 
       layers : (at q : ℕ) → layer_in (get_or (with_group (with_group groups to (put_top (group groups to) id o.layer)) o.parent (without (group groups o.parent) id)) at []) q
-          ≡ (if q == id then layer_at at (apply (change.Enter to) o) else layer_in (get_or groups at []) q)
+          ≡ (if q == id then layer_at at (apply (change.Parent to) o) else layer_in (get_or groups at []) q)
       layers at q =
           let low : place o.parent < length (with_group groups to (put_top (group groups to) id o.layer)) = let e : length (with_group groups to (put_top (group groups to) id o.layer)) ≡ length groups = length-set groups (place to) (put_top (group groups to) id o.layer) in let k : place o.parent < length groups = has_group id o there in omega (arith, e, k) in
           ap (λ g. layer_in g q) (get_set (with_group groups to (put_top (group groups to) id o.layer)) (place o.parent) at (without (group groups o.parent) id) [] low) ∙ elim (eqb_tells at (place o.parent)) [

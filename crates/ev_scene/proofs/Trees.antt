@@ -17,8 +17,8 @@ use Rattle.ev_model.specs.declared.content.Content.{Content}
 use Rattle.ev_model.specs.declared.content.Content.TheVariants as content
 use Rattle.ev_model.specs.declared.content.Kind.TheVariants as kind
 use Rattle.ev_model.specs.declared.object.Object.{Object}
-use Rattle.ev_stack.specs.Order as stack
-use Rattle.ev_stack.specs.Order.{layer_in, ids_of, IsApart}
+use Rattle.ev_stack.specs.LayerOrder as stack
+use Rattle.ev_stack.specs.LayerOrder.{layer_in, ids_of, IsApart}
 use Rattle.ev_groups.specs.Groups.{place, group, siblings}
 use Rattle.ev_links.specs.Ties.{Ties, clipper_at, parent_at, kind_at, has, Has, IsDistinct, places_of, is_inside, IsWay, IsSound}
 use Rattle.ev_links.proofs.Sound.{parent_there, clipper_there, parents_end}

@@ -13,7 +13,7 @@ use Rattle.ev_model.specs.declared.object.Object.{Object}
 use Rattle.ev_model.specs.declared.refusal.Refusal.{Refusal}
 use Rattle.ev_model.specs.declared.refusal.Refusal.TheVariants as refusal
 use Rattle.ev_links.specs.Ties.{Ties}
-use Rattle.ev_links.specs.Calls.{clip_fault, join_fault, leave_fault}
+use Rattle.ev_links.specs.LinkCalls.{clip_fault, join_fault, leave_fault}
 use Rattle.ev_links.specs.declared.refusal.LinkErr.{LinkErr}
 use Rattle.ev_scene.specs.Ids.{of_id, put, live}
 use Rattle.ev_scene.specs.Board.{Board, named, values_of, ties_on}

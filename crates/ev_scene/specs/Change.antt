@@ -15,53 +15,53 @@ use Rattle.ev_model.specs.declared.content.Kind.{Kind}
 use Rattle.ev_model.specs.declared.content.Kind.TheVariants as kind
 use Rattle.ev_model.specs.declared.object.Object.{Object}
 use Rattle.ev_model.specs.declared.object.Op.TheVariants.{Blend}
-use Rattle.ev_scene.specs.declared.drawing.Drawing.{Drawing}
-use Rattle.ev_scene.specs.declared.drawing.Drawing.TheVariants as drawing
-use Rattle.ev_scene.specs.declared.writing.Writing.{Writing}
-use Rattle.ev_scene.specs.declared.writing.Writing.TheVariants as writing
+use Rattle.ev_scene.specs.declared.image_change.ImageChange.{ImageChange}
+use Rattle.ev_scene.specs.declared.image_change.ImageChange.TheVariants as image_change
+use Rattle.ev_scene.specs.declared.text_change.TextChange.{TextChange}
+use Rattle.ev_scene.specs.declared.text_change.TextChange.TheVariants as text_change
 use Rattle.ev_scene.specs.declared.change.Change.{Change}
 use Rattle.ev_scene.specs.declared.change.Change.TheVariants as change
 
--- what an image object draws and how, after a change. Another file drops the pixels
-abbrev pub draw_part : Drawing → ImagePart → ImagePart
-draw_part (drawing.Fill fill) part = record part { fill = fill }
-draw_part (drawing.Border border) part = record part { border = border }
-draw_part (drawing.Center on) part = record part { center = on }
-draw_part (drawing.File key) part = record part { key = Some key; loaded = None }
-draw_part (drawing.Load loaded) part = record part { loaded = Some loaded }
+-- what an image object shows and how, after a change. Another file drops the pixels
+abbrev pub change_image_part : ImageChange → ImagePart → ImagePart
+change_image_part (image_change.Fill fill) part = record part { fill = fill }
+change_image_part (image_change.Border border) part = record part { border = border }
+change_image_part (image_change.Center on) part = record part { center = on }
+change_image_part (image_change.File key) part = record part { key = Some key; loaded = None }
+change_image_part (image_change.Load loaded) part = record part { loaded = Some loaded }
 
 -- the same for the content of any object
-abbrev pub drawn : Drawing → Content → Content
-drawn d content.Rect = content.Rect
-drawn d content.Smart = content.Smart
-drawn d (content.Image part) = content.Image (draw_part d part)
-drawn d (content.Text part) = content.Text part
+abbrev pub change_image : ImageChange → Content → Content
+change_image d content.Rect = content.Rect
+change_image d content.Smart = content.Smart
+change_image d (content.Image part) = content.Image (change_image_part d part)
+change_image d (content.Text part) = content.Text part
 
 -- what a text object says and by which font, after a change. Another file drops the font
-abbrev pub write_part : Writing → TextPart → TextPart
-write_part (writing.Font key) part = record part { key = Some key; loaded = None }
-write_part (writing.Load loaded) part = record part { loaded = Some loaded }
-write_part (writing.Say text) part = record part { text = text }
+abbrev pub change_text_part : TextChange → TextPart → TextPart
+change_text_part (text_change.Font key) part = record part { key = Some key; loaded = None }
+change_text_part (text_change.Load loaded) part = record part { loaded = Some loaded }
+change_text_part (text_change.Say text) part = record part { text = text }
 
 -- the same for the content of any object
-abbrev pub written : Writing → Content → Content
-written w content.Rect = content.Rect
-written w content.Smart = content.Smart
-written w (content.Image part) = content.Image part
-written w (content.Text part) = content.Text (write_part w part)
+abbrev pub change_text : TextChange → Content → Content
+change_text w content.Rect = content.Rect
+change_text w content.Smart = content.Smart
+change_text w (content.Image part) = content.Image part
+change_text w (content.Text part) = content.Text (change_text_part w part)
 
 -- an object after a change
 abbrev pub apply : Change → Object → Object
-apply (change.Place x y) o = record o { rect = record o.rect { x = x; y = y } }
-apply (change.Side w h) o = record o { rect = record o.rect { w = w; h = h } }
-apply (change.Appear on) o = record o { shown = on }
-apply (change.Paint color) o = record o { color = color }
-apply (change.Treat op) o = record o { op = op }
-apply (change.Lift layer) o = record o { layer = layer }
-apply (change.Draw d) o = record o { content = drawn d o.content }
-apply (change.Write w) o = record o { content = written w o.content }
+apply (change.Move x y) o = record o { rect = record o.rect { x = x; y = y } }
+apply (change.Resize w h) o = record o { rect = record o.rect { w = w; h = h } }
+apply (change.Show on) o = record o { shown = on }
+apply (change.Color color) o = record o { color = color }
+apply (change.Op op) o = record o { op = op }
+apply (change.Layer layer) o = record o { layer = layer }
+apply (change.Image d) o = record o { content = change_image d o.content }
+apply (change.Text w) o = record o { content = change_text w o.content }
 apply (change.Clip clipper) o = record o { clipper = clipper }
-apply (change.Enter parent) o = record o { parent = parent }
+apply (change.Parent parent) o = record o { parent = parent }
 
 -- from low to high
 abbrev pub is_between : ℤ → ℤ → ℤ → Bool
@@ -86,38 +86,38 @@ are_channels r g b a = is_channel r && is_channel g && is_channel b && is_channe
 unfoldable pub color_of : ℤ → ℤ → ℤ → ℤ → Argb
 color_of r g b a = clamped (unsigned_abs a) (unsigned_abs r) (unsigned_abs g) (unsigned_abs b)
 
--- the numbers of a way to draw an image are in range
-abbrev pub IsDrawing : Drawing → Type 0
-IsDrawing (drawing.Fill fill) = IsFill fill
-IsDrawing (drawing.Border border) = IsBorder border
-IsDrawing (drawing.Center on) = Unit {0}
-IsDrawing (drawing.File key) = Unit {0}
-IsDrawing (drawing.Load loaded) = Unit {0}
+-- the numbers of a change of an image are in range
+abbrev pub IsImageChange : ImageChange → Type 0
+IsImageChange (image_change.Fill fill) = IsFill fill
+IsImageChange (image_change.Border border) = IsBorder border
+IsImageChange (image_change.Center on) = Unit {0}
+IsImageChange (image_change.File key) = Unit {0}
+IsImageChange (image_change.Load loaded) = Unit {0}
 
 -- what a text says keeps the limits of texts
-abbrev pub IsWriting : Writing → Type 0
-IsWriting (writing.Font key) = Unit {0}
-IsWriting (writing.Load loaded) = Unit {0}
-IsWriting (writing.Say text) = IsText text
+abbrev pub IsTextChange : TextChange → Type 0
+IsTextChange (text_change.Font key) = Unit {0}
+IsTextChange (text_change.Load loaded) = Unit {0}
+IsTextChange (text_change.Say text) = IsText text
 
 -- a change that leaves the layer, the clipper and the parent, and whose numbers are in range
 abbrev pub IsLook : Change → Type 0
-IsLook (change.Place x y) = (is_place x ≡ true) × (is_place y ≡ true)
-IsLook (change.Side w h) = (is_side w ≡ true) × (is_side h ≡ true)
-IsLook (change.Appear on) = Unit {0}
-IsLook (change.Paint color) = Unit {0}
-IsLook (change.Treat op) = Unit {0}
-IsLook (change.Draw d) = IsDrawing d
-IsLook (change.Write w) = IsWriting w
-IsLook (change.Lift layer) = ⊥
+IsLook (change.Move x y) = (is_place x ≡ true) × (is_place y ≡ true)
+IsLook (change.Resize w h) = (is_side w ≡ true) × (is_side h ≡ true)
+IsLook (change.Show on) = Unit {0}
+IsLook (change.Color color) = Unit {0}
+IsLook (change.Op op) = Unit {0}
+IsLook (change.Image d) = IsImageChange d
+IsLook (change.Text w) = IsTextChange w
+IsLook (change.Layer layer) = ⊥
 IsLook (change.Clip clipper) = ⊥
-IsLook (change.Enter parent) = ⊥
+IsLook (change.Parent parent) = ⊥
 
 -- the numbers of a change are in range
 abbrev pub IsFit : Change → Type 0
-IsFit (change.Lift layer) = is_layer layer ≡ true
+IsFit (change.Layer layer) = is_layer layer ≡ true
 IsFit (change.Clip clipper) = Unit {0}
-IsFit (change.Enter parent) = Unit {0}
+IsFit (change.Parent parent) = Unit {0}
 IsFit other = IsLook other
 
 -- the area in which an image repeats has a place, and is 1 to 1,000,000 wide and high

@@ -13,17 +13,17 @@ use Rattle.ev_model.specs.declared.content.Fill.TheVariants.{Filled}
 use Rattle.ev_model.specs.declared.object.Object.{Object}
 use Rattle.ev_model.specs.declared.refusal.Refusal.{Refusal}
 use Rattle.ev_model.specs.declared.refusal.Refusal.TheVariants as refusal
-use Rattle.ev_stack.specs.Order.{put_top, without}
-use Rattle.ev_stack.specs.Calls.{raised, lowered, relayered, placed_above, placed_below}
-use Rattle.ev_links.specs.Calls.{clip_fault, join_fault, leave_fault}
+use Rattle.ev_stack.specs.LayerOrder.{put_top, without}
+use Rattle.ev_stack.specs.StackCalls.{raised, lowered, relayered, placed_above, placed_below}
+use Rattle.ev_links.specs.LinkCalls.{clip_fault, join_fault, leave_fault}
 use Rattle.ev_links.specs.Ties.{has}
 use Rattle.ev_groups.specs.Groups.{group, with_group, siblings}
 use Rattle.ev_scene.specs.Ids.{of_id, put, live}
 use Rattle.ev_scene.specs.Board.{Board, Kept, named, inside, ties_on}
 use Rattle.ev_scene.specs.TieFaults.{refusal_of}
 use Rattle.ev_scene.specs.Change.{apply, fresh, is_layer, is_canvas, are_channels, color_of, is_fill, fill_of, is_border, border_of}
-use Rattle.ev_scene.specs.declared.drawing.Drawing.TheVariants as drawing
-use Rattle.ev_scene.specs.declared.writing.Writing.TheVariants as writing
+use Rattle.ev_scene.specs.declared.image_change.ImageChange.TheVariants as image_change
+use Rattle.ev_scene.specs.declared.text_change.TextChange.TheVariants as text_change
 use Rattle.ev_scene.specs.declared.change.Change.{Change}
 use Rattle.ev_scene.specs.declared.change.Change.TheVariants as change
 use Rattle.ev_scene.specs.declared.change.Target.{Target}
@@ -158,7 +158,7 @@ changed change board o = record board { objects = put board.objects o.id (Some (
 
 -- an object moved by dx and dy
 abbrev pub shifted_by : ℤ → ℤ → Object → Object
-shifted_by dx dy o = apply (change.Place (o.rect.x +ℤ dx) (o.rect.y +ℤ dy)) o
+shifted_by dx dy o = apply (change.Move (o.rect.x +ℤ dx) (o.rect.y +ℤ dy)) o
 
 -- an object and all that stands inside it moved by dx and dy
 abbrev pub shifted_all : ℤ → ℤ → Board → Object → Board
@@ -166,7 +166,7 @@ shifted_all dx dy board o = record board { objects = map (λ slot. option_map (�
 
 -- an object goes to x, y, and takes along all that stands inside it
 abbrev pub moved : ℤ → ℤ → Board → Object → Board
-moved x y board o = if is_smart o then shifted_all (x -ℤ o.rect.x) (y -ℤ o.rect.y) board o else changed (change.Place x y) board o
+moved x y board o = if is_smart o then shifted_all (x -ℤ o.rect.x) (y -ℤ o.rect.y) board o else changed (change.Move x y) board o
 
 -- two places in range lie no further apart than this
 pub record IsShift (d : ℤ) : Type 0 where
@@ -178,7 +178,7 @@ abbrev pub regrouped : (List (ℕ × ℤ) → List (ℕ × ℤ)) → Board → O
 regrouped move board o = record board { groups = with_group board.groups o.parent (move (group board.groups o.parent)) }
 
 abbrev pub relaid : ℤ → Board → Object → Board
-relaid layer board o = regrouped (λ group. relayered group o.id layer) (changed (change.Lift layer) board o) o
+relaid layer board o = regrouped (λ group. relayered group o.id layer) (changed (change.Layer layer) board o) o
 
 abbrev pub restacked : Bool → Board → Object → Board
 restacked up board o = regrouped (λ group. (if up then raised else lowered) group o.id) board o
@@ -188,7 +188,7 @@ placed above board o p = regrouped (λ group. if above then placed_above group o
 
 -- an object goes from where it stands to the top of its layer in another parent, or in none
 abbrev pub rehomed : Option ℕ → Board → Object → Board
-rehomed parent board o = record (changed (change.Enter parent) board o) { groups = gone_from o.parent o (entered parent o board.groups) }
+rehomed parent board o = record (changed (change.Parent parent) board o) { groups = gone_from o.parent o (entered parent o board.groups) }
 
 -- a member stays where it is
 abbrev pub homed : Option ℕ → Board → Object → Board
@@ -200,10 +200,10 @@ effect board (edit.Size w h) = record board { w = unsigned_abs w; h = unsigned_a
 effect board (edit.Make name kind) = made board (fresh (next_id board) name kind)
 effect board (edit.Delete name) = with_named board name (deleted board)
 effect board (edit.Move name x y) = with_named board name (moved x y board)
-effect board (edit.Resize name w h) = with_named board name (changed (change.Side w h) board)
-effect board (edit.Show name on) = with_named board name (changed (change.Appear on) board)
-effect board (edit.Color name r g b a) = with_named board name (changed (change.Paint (color_of r g b a)) board)
-effect board (edit.SetOp name op) = with_named board name (changed (change.Treat op) board)
+effect board (edit.Resize name w h) = with_named board name (changed (change.Resize w h) board)
+effect board (edit.Show name on) = with_named board name (changed (change.Show on) board)
+effect board (edit.Color name r g b a) = with_named board name (changed (change.Color (color_of r g b a)) board)
+effect board (edit.SetOp name op) = with_named board name (changed (change.Op op) board)
 effect board (edit.Layer name layer) = with_named board name (relaid layer board)
 effect board (edit.Raise name up) = with_named board name (restacked up board)
 effect board (edit.Place name other above) = with_named board name (λ o. with_named board other (placed above board o))
@@ -211,13 +211,13 @@ effect board (edit.Clip name clipper) = with_named board name (λ o. with_named 
 effect board (edit.Unclip name) = with_named board name (changed (change.Clip None) board)
 effect board (edit.Member name smart) = with_named board name (λ o. with_named board smart (λ s. homed (Some s.id) board o))
 effect board (edit.Free name) = with_named board name (homed None board)
-effect board (edit.File name key) = with_named board name (changed (change.Draw (drawing.File key)) board)
-effect board (edit.Font name key) = with_named board name (changed (change.Write (writing.Font key)) board)
-effect board (edit.Say name text) = with_named board name (changed (change.Write (writing.Say text.now)) board)
-effect board (edit.Fill name x y w h) = with_named board name (changed (change.Draw (drawing.Fill (fill_of x y w h))) board)
-effect board (edit.Filled name) = with_named board name (changed (change.Draw (drawing.Fill Filled)) board)
-effect board (edit.Border name l r t b) = with_named board name (changed (change.Draw (drawing.Border (border_of l r t b))) board)
-effect board (edit.Center name on) = with_named board name (changed (change.Draw (drawing.Center on)) board)
+effect board (edit.File name key) = with_named board name (changed (change.Image (image_change.File key)) board)
+effect board (edit.Font name key) = with_named board name (changed (change.Text (text_change.Font key)) board)
+effect board (edit.Say name text) = with_named board name (changed (change.Text (text_change.Say text.now)) board)
+effect board (edit.Fill name x y w h) = with_named board name (changed (change.Image (image_change.Fill (fill_of x y w h))) board)
+effect board (edit.Filled name) = with_named board name (changed (change.Image (image_change.Fill Filled)) board)
+effect board (edit.Border name l r t b) = with_named board name (changed (change.Image (image_change.Border (border_of l r t b))) board)
+effect board (edit.Center name on) = with_named board name (changed (change.Image (image_change.Center on)) board)
 
 -- an edit is refused by its first refusal; where there is none, memory may be wanting
 abbrev pub Refuses : Option Refusal → Refusal → Type 0

@@ -7,8 +7,8 @@ use Rattle.ev_model.specs.declared.content.Content.TheVariants as content
 use Rattle.ev_scene.specs.Ids.{of_id, put}
 use Rattle.ev_scene.specs.Board.{Board}
 use Rattle.ev_scene.specs.Change.{apply}
-use Rattle.ev_scene.specs.declared.drawing.Drawing.TheVariants as drawing
-use Rattle.ev_scene.specs.declared.writing.Writing.TheVariants as writing
+use Rattle.ev_scene.specs.declared.image_change.ImageChange.TheVariants as image_change
+use Rattle.ev_scene.specs.declared.text_change.TextChange.TheVariants as text_change
 use Rattle.ev_scene.specs.declared.change.Change.{Change}
 use Rattle.ev_scene.specs.declared.change.Change.TheVariants as change
 
@@ -25,8 +25,8 @@ changed_at change board id = record board { objects = put board.objects id (opti
 
 -- the image object of an id has these pixels, which the load of this number gave
 abbrev pub with_image : Board → ℕ → ℕ → Raster → Board
-with_image board id number image = changed_at (change.Draw (drawing.Load (record { number = number; value = image }))) board id
+with_image board id number image = changed_at (change.Image (image_change.Load (record { number = number; value = image }))) board id
 
 -- the text object of an id has this font, which the load of this number gave
 abbrev pub with_font : Board → ℕ → ℕ → Glyphs → Board
-with_font board id number font = changed_at (change.Write (writing.Load (record { number = number; value = font }))) board id
+with_font board id number font = changed_at (change.Text (text_change.Load (record { number = number; value = font }))) board id

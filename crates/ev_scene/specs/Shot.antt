@@ -6,7 +6,7 @@ use Rattle.ev_model.specs.Look.{look_of, looks}
 use Rattle.ev_model.specs.Stage.{stage}
 use Rattle.ev_model.specs.declared.scene.Record.{Record}
 use Rattle.ev_model.specs.declared.scene.Scene.{Scene}
-use Rattle.ev_stack.specs.Order.{IsOrder}
+use Rattle.ev_stack.specs.LayerOrder.{IsOrder}
 use Rattle.ev_links.specs.Ties.{Has}
 use Rattle.ev_groups.specs.Groups.{group}
 use Rattle.ev_scene.specs.Sound.{IsSound}

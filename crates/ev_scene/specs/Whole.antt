@@ -4,7 +4,7 @@ use Rattle.std.specs.FinMap.{get}
 use Rattle.std.specs.Option.{option_map, option_and_then}
 use Rattle.ev_model.specs.Limits.{IsObject}
 use Rattle.ev_model.specs.declared.object.Object.{Object}
-use Rattle.ev_stack.specs.Order.{layer_in}
+use Rattle.ev_stack.specs.LayerOrder.{layer_in}
 use Rattle.ev_links.specs.Ties.{Ties}
 use Rattle.ev_scene.specs.Ids.{of_id}
 use Rattle.ev_scene.specs.Board.{Board}

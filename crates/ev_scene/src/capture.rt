@@ -1,7 +1,7 @@
 // Scenes as they are captured.
 ghost use Rattle.std.specs.Prelude.{◌≡◌, ◌++◌, IfOk, OnOk, None, option_to_list};
 ghost use Rattle.ev_model.specs.Stage.{stage, values};
-ghost use Rattle.ev_stack.specs.Order.{IsOrder};
+ghost use Rattle.ev_stack.specs.LayerOrder.{IsOrder};
 ghost use Rattle.ev_groups.specs.Groups.{group};
 ghost use Rattle.ev_scene.specs.Ids.{of_id};
 ghost use Rattle.ev_scene.specs.Board.{board, stage_of, values_of, ids_in};

@@ -7,8 +7,8 @@ ghost use Rattle.ev_scene.specs.Change.{apply, is_between, is_layer, is_channel,
 ghost use Rattle.ev_scene.specs.Edits.{is_target};
 
 use crate::NoMemory;
-use crate::drawing::{Drawing, draw};
-use crate::writing::{Writing, write};
+use crate::image_change::{ImageChange, change_image};
+use crate::text_change::{TextChange, change_text};
 use ev_argb::Pixel;
 use ev_geom::{Rect, is_place, is_side};
 use ev_model::{Border, Content, Fill, ImagePart, Kind, Name, Object, Op, TextPart, Words};
@@ -17,16 +17,16 @@ use std::alloc::Global;
 // A change of one object. Its numbers are in range.
 #[derive(Drop)]
 pub enum Change {
-    Place { x: i64, y: i64 },
-    Side { w: i64, h: i64 },
-    Appear(bool),
-    Paint(Pixel),
-    Treat(Op),
-    Draw(Drawing),
-    Write(Writing),
-    Lift(i64),
+    Move { x: i64, y: i64 },
+    Resize { w: i64, h: i64 },
+    Show(bool),
+    Color(Pixel),
+    Op(Op),
+    Image(ImageChange),
+    Text(TextChange),
+    Layer(i64),
     Clip(Option<u64>),
-    Enter(Option<u64>),
+    Parent(Option<u64>),
 }
 
 // The objects that a change is for.
@@ -58,38 +58,38 @@ pub fn apply(change: Change, object: &mut Object)
     ensures { object.new ≡ apply change object.old }
 {
     match change {
-        Change::Place { x, y } => object.rect = object.rect.placed(x, y),
-        Change::Side { w, h } => object.rect = object.rect.sized(w, h),
-        Change::Appear(on) => object.shown = on,
-        Change::Paint(color) => object.color = color,
-        Change::Treat(op) => object.op = op,
-        Change::Draw(drawing) => draw(drawing, &mut object.content),
-        Change::Write(writing) => write(writing, &mut object.content),
-        Change::Lift(layer) => object.layer = layer as i32,
+        Change::Move { x, y } => object.rect = object.rect.placed(x, y),
+        Change::Resize { w, h } => object.rect = object.rect.sized(w, h),
+        Change::Show(on) => object.shown = on,
+        Change::Color(color) => object.color = color,
+        Change::Op(op) => object.op = op,
+        Change::Image(change) => change_image(change, &mut object.content),
+        Change::Text(change) => change_text(change, &mut object.content),
+        Change::Layer(layer) => object.layer = layer as i32,
         Change::Clip(clipper) => object.clipper = clipper,
-        Change::Enter(parent) => object.parent = parent,
+        Change::Parent(parent) => object.parent = parent,
     }
 }
 
 // A change of place, where both numbers are places.
-pub fn place(x: i64, y: i64) -> Option<Change>
-    ensures value { result ≡ (if is_place x && is_place y then Some (Change.Place x y) else None) }
+pub fn move_to(x: i64, y: i64) -> Option<Change>
+    ensures value { result ≡ (if is_place x && is_place y then Some (Change.Move x y) else None) }
     ensures fit { IfSome result IsLook }
 {
     if is_place(x) && is_place(y) {
-        Some(Change::Place { x, y })
+        Some(Change::Move { x, y })
     } else {
         None
     }
 }
 
 // A change of size, where both numbers are sides.
-pub fn side(w: i64, h: i64) -> Option<Change>
-    ensures value { result ≡ (if is_side w && is_side h then Some (Change.Side w h) else None) }
+pub fn resize(w: i64, h: i64) -> Option<Change>
+    ensures value { result ≡ (if is_side w && is_side h then Some (Change.Resize w h) else None) }
     ensures fit { IfSome result IsLook }
 {
     if is_side(w) && is_side(h) {
-        Some(Change::Side { w, h })
+        Some(Change::Resize { w, h })
     } else {
         None
     }
@@ -97,12 +97,12 @@ pub fn side(w: i64, h: i64) -> Option<Change>
 
 // A change of colour, where all four numbers are channels.
 #[tactic(auto, unfolding(crate::specs::Change::are_channels))]
-pub fn paint(r: i64, g: i64, b: i64, a: i64) -> Option<Change>
-    ensures value { result ≡ (if are_channels r g b a then Some (Change.Paint (color_of r g b a)) else None) }
+pub fn color(r: i64, g: i64, b: i64, a: i64) -> Option<Change>
+    ensures value { result ≡ (if are_channels r g b a then Some (Change.Color (color_of r g b a)) else None) }
     ensures fit { IfSome result IsLook }
 {
     if is_channel(r) && is_channel(g) && is_channel(b) && is_channel(a) {
-        Some(Change::Paint(color_of(r, g, b, a)))
+        Some(Change::Color(color_of(r, g, b, a)))
     } else {
         None
     }

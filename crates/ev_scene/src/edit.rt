@@ -9,9 +9,9 @@ ghost use Rattle.ev_scene.specs.Change.{IsLook};
 ghost use Rattle.ev_scene.specs.Edits.{known, look_verdict, with_named, changed, Refuses, Edits, IsLeft, writes};
 
 use crate::cast::Cast;
-use crate::change::{Change, Target, fresh, is_between, paint, side};
-use crate::drawing::{Drawing, border, fill};
-use crate::writing::Writing;
+use crate::change::{Change, Target, color, fresh, is_between, resize};
+use crate::image_change::{ImageChange, border, fill};
+use crate::text_change::TextChange;
 use ev_model::{Edit, Fill, Kind, Name, Refusal};
 
 /// How many objects may be there at a time.
@@ -32,13 +32,13 @@ impl Cast {
             Edit::Make { name, kind } => self.make(name, *kind),
             Edit::Delete { name } => self.delete(name),
             Edit::Move { name, x, y } => self.shift(name, *x, *y),
-            Edit::Resize { name, w, h } => self.change(name, Target::Any, side(*w, *h)),
-            Edit::Show { name, on } => { self.change(name, Target::Any, Some(Change::Appear(*on))) }
+            Edit::Resize { name, w, h } => self.change(name, Target::Any, resize(*w, *h)),
+            Edit::Show { name, on } => { self.change(name, Target::Any, Some(Change::Show(*on))) }
             Edit::Color { name, r, g, b, a } => {
-                self.change(name, Target::Any, paint(*r, *g, *b, *a))
+                self.change(name, Target::Any, color(*r, *g, *b, *a))
             }
             Edit::SetOp { name, op } => {
-                self.change(name, Target::Painted, Some(Change::Treat(*op)))
+                self.change(name, Target::Painted, Some(Change::Op(*op)))
             }
             Edit::Layer { name, layer } => self.relayer(name, *layer),
             Edit::Raise { name, up } => self.restack(name, *up),
@@ -48,10 +48,10 @@ impl Cast {
             Edit::Member { name, smart } => self.join(name, smart),
             Edit::Free { name } => self.leave(name),
             Edit::File { name, key } => {
-                self.change(name, Target::Image, Some(Change::Draw(Drawing::File(*key))))
+                self.change(name, Target::Image, Some(Change::Image(ImageChange::File(*key))))
             }
             Edit::Font { name, key } => {
-                self.change(name, Target::Text, Some(Change::Write(Writing::Font(*key))))
+                self.change(name, Target::Text, Some(Change::Text(TextChange::Font(*key))))
             }
             Edit::Say { name, text } => self.say(name, text),
             Edit::Fill { name, x, y, w, h } => {
@@ -60,7 +60,7 @@ impl Cast {
             Edit::Filled { name } => self.change(
                 name,
                 Target::Image,
-                Some(Change::Draw(Drawing::Fill(Fill::Filled))),
+                Some(Change::Image(ImageChange::Fill(Fill::Filled))),
             ),
             Edit::Border { name, l, r, t, b } => {
                 self.change(name, Target::Image, border(*l, *r, *t, *b))
@@ -69,7 +69,7 @@ impl Cast {
                 self.change(
                     name,
                     Target::Image,
-                    Some(Change::Draw(Drawing::Center(*on))),
+                    Some(Change::Image(ImageChange::Center(*on))),
                 )
             }
         }

@@ -5,7 +5,7 @@ mod capture;
 mod cast;
 mod change;
 mod delete;
-mod drawing;
+mod image_change;
 mod edit;
 mod label;
 mod laws;
@@ -19,7 +19,7 @@ mod sound;
 mod stacking;
 #[cfg(test)]
 mod tests;
-mod writing;
+mod text_change;
 
 pub use capture::Captured;
 pub use edit::MAX_OBJECTS;

@@ -1,8 +1,8 @@
 // Edits of clippers and parents.
 ghost use Rattle.std.specs.Prelude.{◌≡◌, ◌≢◌, ◌<◌, true, length, is_some, OnOk, OnErr, IfErr, Some, None};
-ghost use Rattle.ev_stack.specs.Order.{layer_in, put_top};
+ghost use Rattle.ev_stack.specs.LayerOrder.{layer_in, put_top};
 ghost use Rattle.ev_groups.specs.Groups.{place, group, with_group};
-ghost use Rattle.ev_links.specs.Calls.{with_parent};
+ghost use Rattle.ev_links.specs.LinkCalls.{with_parent};
 ghost use Rattle.ev_model.specs.declared.object.Object.{Object};
 ghost use Rattle.ev_model.specs.declared.command.Edit.TheVariants as edit;
 ghost use Rattle.ev_scene.specs.Ids.{of_id};
@@ -138,7 +138,7 @@ impl Cast {
         };
         let (from, layer) = (object.parent, object.layer);
         push_into(&mut self.groups, to, id, layer)?;
-        if let Err(cause) = self.roll.change(id, Change::Enter(to)) {
+        if let Err(cause) = self.roll.change(id, Change::Parent(to)) {
             remove_from(&mut self.groups, to, id);
             return Err(cause);
         }

@@ -10,8 +10,8 @@ ghost use Rattle.ev_scene.specs.ObjectLoads.{key_of, with_image, with_font};
 use crate::NoMemory;
 use crate::cast::Cast;
 use crate::change::Change;
-use crate::drawing::Drawing;
-use crate::writing::Writing;
+use crate::image_change::ImageChange;
+use crate::text_change::TextChange;
 use ev_model::{Content, Font, Image, Kind, LoadedFont, LoadedImage, Name};
 use std::alloc::Global;
 use std::sync::Arc;
@@ -44,7 +44,7 @@ impl Cast {
         ensures made { MakesAtMost 1 self.old.roll.made self.new.roll.made }
     {
         let loaded = LoadedImage::new(number, image);
-        self.roll.change(id, Change::Draw(Drawing::Load(loaded)))?;
+        self.roll.change(id, Change::Image(ImageChange::Load(loaded)))?;
         Ok(())
     }
 
@@ -64,7 +64,7 @@ impl Cast {
         ensures made { MakesAtMost 1 self.old.roll.made self.new.roll.made }
     {
         let loaded = LoadedFont::new(number, font);
-        self.roll.change(id, Change::Write(Writing::Load(loaded)))?;
+        self.roll.change(id, Change::Text(TextChange::Load(loaded)))?;
         Ok(())
     }
 }

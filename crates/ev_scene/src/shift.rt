@@ -13,7 +13,7 @@ ghost use Rattle.ev_model.specs.declared.refusal.Refusal.TheVariants as refusal;
 
 use crate::NoMemory;
 use crate::cast::Cast;
-use crate::change::place;
+use crate::change::move_to;
 use crate::roll::Roll;
 use ev_geom::is_place;
 use ev_model::{Name, Object, Refusal};
@@ -32,7 +32,7 @@ impl Cast {
             return Err(Refusal::Unknown);
         };
         let id = object.id;
-        let Some(change) = place(x, y) else {
+        let Some(change) = move_to(x, y) else {
             return Err(Refusal::Range);
         };
         if object.is_smart() {

@@ -1,7 +1,7 @@
 // What holds of each scene, whatever was edited.
 ghost use Rattle.std.specs.Prelude.{◌≡◌, ℕ, [], get_or};
 ghost use Rattle.std.specs.FinMap.{get};
-ghost use Rattle.ev_stack.specs.Order.{IsOrder};
+ghost use Rattle.ev_stack.specs.LayerOrder.{IsOrder};
 ghost use Rattle.ev_links.specs.Ties as ties;
 ghost use Rattle.ev_scene.specs.Board.{board, stage_of};
 ghost use Rattle.ev_scene.specs.Cast.{IsCast, board_of};

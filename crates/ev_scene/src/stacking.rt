@@ -1,8 +1,8 @@
 // Edits of the order of siblings.
 ghost use Rattle.std.specs.Prelude.{◌≡◌, ℕ, ◌<◌, true, length, OnOk, OnErr, IfErr, Option, Some, None, if◌then◌else◌};
 ghost use Rattle.std.specs.Result.{result_err};
-ghost use Rattle.ev_stack.specs.Order.{is_in, without, IsOrder};
-ghost use Rattle.ev_stack.specs.Calls.{place_fault, raised, lowered, relayered, placed_above, placed_below};
+ghost use Rattle.ev_stack.specs.LayerOrder.{is_in, without, IsOrder};
+ghost use Rattle.ev_stack.specs.StackCalls.{place_fault, raised, lowered, relayered, placed_above, placed_below};
 ghost use Rattle.ev_groups.specs.Groups.{place, group, with_group};
 ghost use Rattle.ev_model.specs.declared.command.Edit.TheVariants as edit;
 ghost use Rattle.ev_scene.specs.Board.{MakesAtMost};
@@ -31,7 +31,7 @@ impl Cast {
         if !is_layer(layer) {
             return Err(Refusal::Range);
         }
-        self.roll.change(id, Change::Lift(layer))?;
+        self.roll.change(id, Change::Layer(layer))?;
         relayer_in(&mut self.groups, parent, id, layer as i32);
         Ok(())
     }

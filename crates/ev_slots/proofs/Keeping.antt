@@ -7,7 +7,7 @@ use Rattle.std.proofs.lemmas.Bool.Decides.{nat_tests, eqb_tells}
 use Rattle.std.proofs.lemmas.List.{length-set}
 use Rattle.std.proofs.lemmas.Option.{none-some, same_Some}
 use Rattle.ev_slots.specs.Slots.{of_id, put, live}
-use Rattle.ev_slots.specs.Kept.{id_in, thing_in, thing_of, up_to, IsKept, Enters}
+use Rattle.ev_slots.specs.KeptPlaces.{id_in, thing_in, thing_of, up_to, IsKept, Enters}
 use Rattle.ev_slots.specs.declared.slots.Entry.{Entry}
 use Rattle.ev_slots.proofs.Places.{of_id_end, of_id_given, same_slots, live_none, live_filled, live_put, live_taken, not_given, put_last}
 

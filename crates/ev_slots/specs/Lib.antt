@@ -1,3 +1,3 @@
 pub mod Slots
 pub mod Lending
-pub mod Kept
+pub mod KeptPlaces

@@ -6,7 +6,7 @@ ghost use Rattle.ev_slots.specs.Slots.{of_id, put, live};
 ghost use Rattle.std.specs.HashMap.{get, spare};
 ghost use Rattle.slab.specs.Slab.{get as entry, slab_len};
 ghost use Rattle.ev_slots.specs.Lending.{LendsThing};
-ghost use Rattle.ev_slots.specs.Kept.{Enters};
+ghost use Rattle.ev_slots.specs.KeptPlaces.{Enters};
 ghost use Rattle.ev_slots.specs.declared.slots.Entry.{Entry};
 
 use crate::NoMemory;
@@ -42,7 +42,7 @@ impl<T> Model for Slots<T> {
     ghost use Rattle.std.specs.HashMap.{get, spare};
     ghost use Rattle.slab.specs.Slab.{get as entry, slab_len};
     ghost use Rattle.ev_slots.specs.Slots.{Slots};
-    ghost use Rattle.ev_slots.specs.Kept.{IsKept, thing_of, up_to};
+    ghost use Rattle.ev_slots.specs.KeptPlaces.{IsKept, thing_of, up_to};
 
     ghost Value = { Slots T };
 

@@ -6,7 +6,7 @@ use Rattle.std.specs.Prelude.{nat_eq}
 use Rattle.std.specs.Option.{option_map}
 use Rattle.std.specs.HashMap.{get, hash_map_len}
 use Rattle.ev_stack.specs.declared.chain.Chain.{Chain}
-use Rattle.ev_stack.specs.Order.{layer_in, is_in, IsApart, without}
+use Rattle.ev_stack.specs.LayerOrder.{layer_in, is_in, IsApart, without}
 use Rattle.ev_stack.specs.Links.{next_in, put_after, IsPlace, above_of, below_of, layer_of, is_place, order_of, IsChain, IsSound}
 use Rattle.ev_stack.proofs.Lists.{next_in_other, next_in-without, previous_in-without, next_in-put_after, previous_in-put_after, IsApart-without, IsDistinct-without, apart_without, length-without, layer_in-without, IsApart-put_after, IsDistinct-put_after, length-put_after, layer_in-put_after, layer_in-put_after_new, in_apart, place_is_in, next_is_there, walk_along}
 

@@ -8,7 +8,7 @@ use Rattle.std.specs.Prelude.{int_lt, slice_index_or, slice_set, ◌≤ℤ◌}
 use Rattle.std.specs.Ordering.{int_eq}
 use Rattle.std.specs.List.{insert, remove}
 use Rattle.std.specs.List.Sorted.{IsPartitionedBy, IsPartitionPoint}
-use Rattle.ev_stack.specs.Order.{IsFrom, IsLayered}
+use Rattle.ev_stack.specs.LayerOrder.{IsFrom, IsLayered}
 use Rattle.ev_stack.specs.Links.{last_up_to, last_below}
 use Rattle.ev_stack.specs.Tops.{with_top, put_instead, without_top, front_len, below_len, up_to_len, id_before}
 use Rattle.ev_stack.proofs.Lists.{neq-eqb}

@@ -3,7 +3,7 @@ use Rattle.std.proofs.Common.{◌≡◌, ℕ, ℤ, true, false, List, [], ◌∷
 use Rattle.std.proofs.lemmas.Bool.Decides.{eqb_tells}
 use Rattle.std.proofs.lemmas.Int.{ints}
 use Rattle.std.specs.Prelude.{int_lt, ◌≤ℤ◌}
-use Rattle.ev_stack.specs.Order.{layer_in, IsFrom, IsLayered, without, put_top, put_bottom, put_above, put_below}
+use Rattle.ev_stack.specs.LayerOrder.{layer_in, IsFrom, IsLayered, without, put_top, put_bottom, put_above, put_below}
 
 lower : (a b : ℤ) → int_lt a b ≡ true → a ≤ℤ b
 lower a b e = grind (arith, ints)

@@ -1,7 +1,7 @@
 -- Neighbours in a list, and how an edit of the list changes them.
 use Rattle.std.proofs.Common.{◌≡◌, ◌≢◌, ℕ, ℤ, ◌≤◌, true, false, List, [], ◌∷◌, Option, Some, None, is_some, if◌then◌else◌, ◌==◌, length, zero, suc, inl, inr, refl, sym, subst, ◌∙◌, ap, eq-eqb, arith}
 use Rattle.std.proofs.lemmas.Bool.Decides.{nat_tests, eqb_tells}
-use Rattle.ev_stack.specs.Order.{layer_in, is_in, IsApart, IsDistinct, without}
+use Rattle.ev_stack.specs.LayerOrder.{layer_in, is_in, IsApart, IsDistinct, without}
 use Rattle.ev_stack.specs.Links.{next_in, previous_in, put_after, IsPlace, walk}
 
 pub neq-eqb : (a b : ℕ) → a ≢ b → (a == b) ≡ false

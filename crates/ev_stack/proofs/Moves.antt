@@ -4,7 +4,7 @@ use Rattle.std.proofs.lemmas.Bool.Decides.{eqb_tells}
 use Rattle.std.specs.HashMap.{hash_map_len}
 use Rattle.ev_stack.specs.declared.chain.Chain.{Chain}
 use Rattle.ev_stack.specs.declared.stack.Stack.{Stack}
-use Rattle.ev_stack.specs.Order.{layer_in, is_in, IsApart, IsLayered, without}
+use Rattle.ev_stack.specs.LayerOrder.{layer_in, is_in, IsApart, IsLayered, without}
 use Rattle.ev_stack.specs.Links.{previous_in, put_after, IsPlace, above_of, below_of, layer_of, order_of, IsChain, IsSound}
 use Rattle.ev_stack.specs.Tops.{tops_of, with_top, without_top, in_layer}
 use Rattle.ev_stack.specs.Stacks.{IsStack, IsLoose}

@@ -2,7 +2,7 @@
 use Rattle.std.proofs.Common.{◌≡◌, ◌≢◌, ℕ, ℤ, true, false, List, [], ◌∷◌, Some, is_some, inl, inr, if◌then◌else◌, refl, sym, subst, ap, eq-eqb}
 use Rattle.std.proofs.lemmas.Bool.Decides.{eqb_tells}
 use Rattle.std.specs.Prelude.{int_lt}
-use Rattle.ev_stack.specs.Order.{layer_in, is_in, IsApart, IsDistinct, IsLayered, put_top, put_bottom, put_above, put_below}
+use Rattle.ev_stack.specs.LayerOrder.{layer_in, is_in, IsApart, IsDistinct, IsLayered, put_top, put_bottom, put_above, put_below}
 use Rattle.ev_stack.specs.Links.{previous_in, put_after, IsPlace, last_up_to, last_below}
 use Rattle.ev_stack.proofs.Lists.{neq-eqb, previous_in_apart, in_is_place, in_apart, previous_is_place}
 use Rattle.ev_stack.proofs.Layering.{IsLayered-put_top, IsLayered-put_bottom, IsLayered-put_above, IsLayered-put_below}

@@ -4,7 +4,7 @@ use Rattle.std.proofs.lemmas.Bool.Decides.{eqb_tells, Decides-int_eq}
 use Rattle.std.proofs.lemmas.Int.{ints}
 use Rattle.std.specs.Prelude.{int_lt, ◌≤ℤ◌, ◌<ℤ◌}
 use Rattle.std.specs.Ordering.{int_eq}
-use Rattle.ev_stack.specs.Order.{layer_in, IsApart, IsDistinct, IsFrom, IsLayered, without}
+use Rattle.ev_stack.specs.LayerOrder.{layer_in, IsApart, IsDistinct, IsFrom, IsLayered, without}
 use Rattle.ev_stack.specs.Links.{previous_in, put_after, IsPlace, last_up_to, last_below}
 use Rattle.ev_stack.specs.Tops.{begins_in, tops_of, with_top, without_top, only_in, in_layer}
 use Rattle.ev_stack.proofs.Lists.{neq-eqb, in_apart}

@@ -1,7 +1,7 @@
 -- Walks from bottom to top.
 use Rattle.std.proofs.Common.{◌≡◌, ◌≢◌, ◌-◌, ◌+◌, ◌<◌, ℕ, ℤ, true, List, [], ◌∷◌, Option, Some, None, zero, suc, inl, inr, refl, sym, ◌∙◌, ap, eq-eqb, arith}
 use Rattle.std.proofs.lemmas.Bool.Decides.{eqb_tells}
-use Rattle.ev_stack.specs.Order.{is_in, IsApart, IsDistinct, bottom_in, above_in, at_place, ids_of, ids_above, ids_from}
+use Rattle.ev_stack.specs.LayerOrder.{is_in, IsApart, IsDistinct, bottom_in, above_in, at_place, ids_of, ids_above, ids_from}
 use Rattle.ev_stack.specs.Links.{next_in, id_or_none, climbed}
 use Rattle.ev_stack.proofs.Lists.{neq-eqb, in_apart}
 

@@ -2,7 +2,7 @@
 use Rattle.std.specs.Prelude.{◌≡◌, ℕ, ℤ, pos, Bool, ◌||◌, ◌⊎◌, List, [], ◌∷◌, Option, Some, None, if◌then◌else◌, ◌==◌, ◌≤◌, nat_eq, suc, zero, is_some, length, int_lt}
 use Rattle.std.specs.Option.{option_map, unwrap_or}
 use Rattle.std.specs.HashMap.{get, hash_map_len}
-use Rattle.ev_stack.specs.Order.{layer_in, IsApart, IsDistinct}
+use Rattle.ev_stack.specs.LayerOrder.{layer_in, IsApart, IsDistinct}
 use Rattle.ev_stack.specs.declared.chain.Node.{Node}
 use Rattle.ev_stack.specs.declared.chain.Chain.{Chain}
 

@@ -2,7 +2,7 @@
 use Rattle.std.specs.Prelude.{◌≡◌, ◌≢◌, ℕ, true, is_some, ◌+◌, ◌≤◌, length, vec_capacity}
 use Rattle.std.specs.HashMap.{hash_map_len}
 use Rattle.ev_stack.specs.declared.stack.Stack.{Stack}
-use Rattle.ev_stack.specs.Order.{layer_in, IsApart, IsLayered}
+use Rattle.ev_stack.specs.LayerOrder.{layer_in, IsApart, IsLayered}
 use Rattle.ev_stack.specs.Links.{layer_of, order_of, IsSound}
 use Rattle.ev_stack.specs.Tops.{tops_of}
 

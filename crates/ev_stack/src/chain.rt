@@ -1,7 +1,7 @@
 // A list of objects that is kept by links, in which each edit takes a few look-ups.
 ghost use Rattle.std.specs.Prelude.{◌≡◌, ◌≢◌, [], ◌+◌, ◌^◌, ◌≤◌, ◌<◌, ℕ, pos, true, Some, None, IsSome, length, nat_eq, is_some, int_lt, OnOk, OnErr, ◌==◌, if◌then◌else◌};
 ghost use Rattle.std.specs.HashMap.{get, hash_map_len, IsUnchanged};
-ghost use Rattle.ev_stack.specs.Order.{is_in, without, IsApart};
+ghost use Rattle.ev_stack.specs.LayerOrder.{is_in, without, IsApart};
 ghost use Rattle.ev_stack.specs.Links.{above_of, below_of, layer_of, is_place, order_of, put_after, IsPlace, IsSound};
 
 use crate::NoMemory;

@@ -1,7 +1,7 @@
 // An index of the layers in use.
 ghost use Rattle.std.specs.Prelude.{◌≡◌, ◌≢◌, ℕ, ℤ, [], ◌+◌, ◌^◌, ◌≤◌, ◌<◌, length, vec_len, vec_capacity, OnOk, OnErr};
 ghost use Rattle.std.specs.List.{insert};
-ghost use Rattle.ev_stack.specs.Order.{IsLayered};
+ghost use Rattle.ev_stack.specs.LayerOrder.{IsLayered};
 ghost use Rattle.ev_stack.specs.Links.{last_up_to, last_below};
 ghost use Rattle.ev_stack.specs.Tops.{with_top, without_top, below_len, up_to_len, id_before};
 

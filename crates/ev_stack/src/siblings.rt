@@ -1,8 +1,8 @@
 // The calls on siblings.
 ghost use Rattle.std.specs.Prelude.{◌≡◌, ◌≢◌, ◌==◌, [], length, None, Some, IfOk, OnOk, OnErr};
 ghost use Rattle.std.specs.Result.{result_err};
-ghost use Rattle.ev_stack.specs.Order.{layer_in, bottom_in, above_in, at_place, ids_of, ids_above, ids_from, IsOrder, put_top, without};
-ghost use Rattle.ev_stack.specs.Calls.{place_fault, known_fault, raised, lowered, relayered, placed_above, placed_below};
+ghost use Rattle.ev_stack.specs.LayerOrder.{layer_in, bottom_in, above_in, at_place, ids_of, ids_above, ids_from, IsOrder, put_top, without};
+ghost use Rattle.ev_stack.specs.StackCalls.{place_fault, known_fault, raised, lowered, relayered, placed_above, placed_below};
 
 use crate::NoMemory;
 use crate::stack::Stack;

@@ -1,6 +1,6 @@
 // Siblings by their links and by an index of their layers.
 ghost use Rattle.std.specs.Prelude.{◌≡◌, ◌≢◌, [], ◌+◌, ◌≤◌, ◌<◌, ℕ, ℤ, true, Some, None, length, vec_capacity, OnOk, OnErr};
-ghost use Rattle.ev_stack.specs.Order.{layer_in, bottom_in, above_in, at_place, ids_of, ids_above, ids_from, IsOrder, IsLayered, without, put_top, to_top, to_bottom, to_above, to_below};
+ghost use Rattle.ev_stack.specs.LayerOrder.{layer_in, bottom_in, above_in, at_place, ids_of, ids_above, ids_from, IsOrder, IsLayered, without, put_top, to_top, to_bottom, to_above, to_below};
 ghost use Rattle.ev_stack.specs.Links.{layer_of, order_of, put_after, id_or_none, last_up_to, last_below, IsPlace};
 ghost use Rattle.ev_stack.specs.Tops.{in_layer, tops_of};
 ghost use Rattle.ev_stack.specs.Stacks.{IsStack, IsLoose};

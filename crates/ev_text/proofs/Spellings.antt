@@ -12,8 +12,8 @@ use Rattle.std.proofs.lemmas.Nat.{le_bytes_4, from_le_bytes-to_le_bytes_4}
 use Rattle.ev_model.specs.Glyphs.{Glyphs, IsFont, RowsFit}
 use Rattle.ev_text.specs.declared.fault.BadFont.{BadFont}
 use Rattle.ev_text.specs.declared.fault.BadFont.TheVariants.{Magic, Height, Short, Long}
-use Rattle.ev_text.specs.Format.{spelling, Stands}
-use Rattle.ev_text.specs.Reading.{begins, height_at, is_wide, checked_widths, widths_at, rows_of, fits, bad_glyph, checked_rows, rows_at, font_at, Gives, ◌>>=◌}
+use Rattle.ev_text.specs.FontFormat.{spelling, Stands}
+use Rattle.ev_text.specs.FontReading.{begins, height_at, is_wide, checked_widths, widths_at, rows_of, fits, bad_glyph, checked_rows, rows_at, font_at, Gives, ◌>>=◌}
 
 -- the value of a step that did not fail
 bind_ok : {A B : Type 0} (r : Result A BadFont) (f : A → Result B BadFont) (y : B) → (r >>= f) ≡ Ok y → (x : A) × (r ≡ Ok x) × (f x ≡ Ok y)

@@ -8,7 +8,7 @@ use Rattle.std.proofs.lemmas.List.{nil_from_length}
 use Rattle.ev_argb.specs.Argb.{Argb}
 use Rattle.ev_model.specs.Glyphs.{Glyphs, width_of, row_of, glyph_bit, text_bit}
 use Rattle.ev_model.specs.Sample.{text_sample}
-use Rattle.ev_text.specs.Rows.{bit_sample, IsInFirst}
+use Rattle.ev_text.specs.TextRows.{bit_sample, IsInFirst}
 use Rattle.ev_model.proofs.Runs.{run_same, run_constant}
 
 -- a row below the font has no bit

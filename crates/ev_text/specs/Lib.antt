@@ -1,3 +1,3 @@
-pub mod Format
-pub mod Reading
-pub mod Rows
+pub mod FontFormat
+pub mod FontReading
+pub mod TextRows

@@ -1,7 +1,7 @@
 // What stands in a row for a bit of a text: whether it is set, or the pixel that is drawn for it.
 ghost use Rattle.std.specs.Prelude.{◌≡◌, Option, is_some};
 ghost use Rattle.ev_argb.specs.Argb.{Argb};
-ghost use Rattle.ev_text.specs.Rows.{bit_sample, drawn};
+ghost use Rattle.ev_text.specs.TextRows.{bit_sample, drawn};
 
 use ev_argb::Pixel;
 
@@ -24,7 +24,7 @@ impl Form for bool {
 }
 
 impl Form for Pixel {
-    ghost use Rattle.ev_text.specs.Rows.{drawn};
+    ghost use Rattle.ev_text.specs.TextRows.{drawn};
 
     ghost form = { drawn };
 

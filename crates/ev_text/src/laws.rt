@@ -2,8 +2,8 @@
 ghost use Rattle.std.specs.Prelude.{◌≡◌, ℕ, ◌<◌, List, Ok};
 ghost use Rattle.std.specs.List.{All};
 ghost use Rattle.ev_model.specs.Glyphs.{Glyphs, IsFont};
-ghost use Rattle.ev_text.specs.Format.{Stands, spelling};
-ghost use Rattle.ev_text.specs.Reading.{font_at};
+ghost use Rattle.ev_text.specs.FontFormat.{Stands, spelling};
+ghost use Rattle.ev_text.specs.FontReading.{font_at};
 
 /// A law: bytes stand for one font at most.
 pub fn one_font()

@@ -2,8 +2,8 @@
 ghost use Rattle.std.specs.Prelude.{◌≡◌, ◌+◌, ◌*◌, ◌≤◌, ◌<◌, length, IfOk, IfErr, IfSome, IfNone, Ok};
 ghost use Rattle.std.specs.List.{position, All};
 ghost use Rattle.ev_model.specs.Glyphs.{Glyphs};
-ghost use Rattle.ev_text.specs.Format.{Stands};
-ghost use Rattle.ev_text.specs.Reading.{begins, height_at, is_wide, widths_at, rows_of, bad_glyph, checked_rows, rows_at, font_at, IsFault, Gives};
+ghost use Rattle.ev_text.specs.FontFormat.{Stands};
+ghost use Rattle.ev_text.specs.FontReading.{begins, height_at, is_wide, widths_at, rows_of, bad_glyph, checked_rows, rows_at, font_at, IsFault, Gives};
 
 use crate::fault::BadFont;
 use crate::rows::{bad_glyph, rows_of};

@@ -2,7 +2,7 @@
 ghost use Rattle.std.specs.Prelude.{◌≡◌, ◌+◌, ◌*◌, ◌≤◌, length, take, drop, IfOk};
 ghost use Rattle.std.specs.List.{list_all, All};
 ghost use Rattle.std.specs.Int.{w32, from_le_bytes};
-ghost use Rattle.ev_text.specs.Reading.{rows_of, fits, bad_glyph};
+ghost use Rattle.ev_text.specs.FontReading.{rows_of, fits, bad_glyph};
 
 use crate::NoMemory;
 use std::alloc::Global;

@@ -4,7 +4,7 @@ ghost use Rattle.std.specs.List.{range_with_len};
 ghost use Rattle.std.specs.Int.{bit_at};
 ghost use Rattle.ev_model.specs.Glyphs.{IsText, text_bit, text_width};
 ghost use Rattle.ev_model.specs.Sample.{text_sample};
-ghost use Rattle.ev_text.specs.Rows as rows;
+ghost use Rattle.ev_text.specs.TextRows as rows;
 
 use crate::form::Form;
 use crate::glyph::{has_bit, row_of, width_of};

@@ -1,5 +1,5 @@
 use Rattle.std.proofs.Common.{◌≡◌, ℕ, ◌+◌, ◌<◌, take}
-use Rattle.ev_cmds.specs.Parts.{any_has}
+use Rattle.ev_cmds.specs.SeenEdges.{any_has}
 use Rattle.ev_cmds.specs.Masks.{has_bit}
 use Rattle.ev_cmds.proofs.opening.bare_part.Given as goal
 

@@ -1,6 +1,6 @@
 use Rattle.std.proofs.Common.{◌≡◌, ℕ, pos, ◌&&◌, nat_lt, take}
 use Rattle.ev_geom.specs.Bands.{has_pixel}
-use Rattle.ev_cmds.specs.Parts.{any_has}
+use Rattle.ev_cmds.specs.SeenEdges.{any_has}
 use Rattle.ev_cmds.proofs.opening.edges_of.Given as goal
 
 abbrev pub invariant-loop-rect : goal.invariant-loop-rect

@@ -1,5 +1,5 @@
 use Rattle.std.proofs.Common.{take}
-use Rattle.ev_cmds.specs.Jobs.{AreNear}
+use Rattle.ev_cmds.specs.TileJobs.{AreNear}
 use Rattle.ev_cmds.proofs.opening.keep_near.Given as goal
 
 abbrev pub invariant-loop-one : goal.invariant-loop-one

@@ -1,5 +1,5 @@
 use Rattle.std.proofs.Common.{ap, ◌∙◌}
-use Rattle.ev_desk.specs.Moves.{parted}
+use Rattle.ev_desk.specs.DeskMoves.{parted}
 use Rattle.ev_desk.proofs.Books.{books_open}
 use Rattle.ev_desk.proofs.opening.desk.Goals as goal
 

@@ -1,4 +1,4 @@
-use Rattle.ev_desk.specs.Seen.{asker_view}
+use Rattle.ev_desk.specs.DeskSeen.{asker_view}
 use Rattle.ev_desk.proofs.Stages.{only_asked}
 use Rattle.ev_desk.proofs.tests.ask_for.Goals as goal
 

@@ -1,6 +1,6 @@
 use Rattle.std.proofs.Common.{◌≡◌, ◌≤◌}
-use Rattle.ev_desk.specs.Seen.{asker_view, asker_desk}
-use Rattle.ev_desk.specs.Says.{IsIdle}
+use Rattle.ev_desk.specs.DeskSeen.{asker_view, asker_desk}
+use Rattle.ev_desk.specs.DeskSays.{IsIdle}
 use Rattle.ev_desk.proofs.tests.ask_until_done.Given as goal
 
 abbrev pub invariant-loop-i : goal.invariant-loop-i

@@ -1,5 +1,5 @@
 use Rattle.std.proofs.Common.{◌≡◌, None}
-use Rattle.ev_desk.specs.Seen.{loader_view, loader_desk}
+use Rattle.ev_desk.specs.DeskSeen.{loader_view, loader_desk}
 use Rattle.ev_desk.proofs.tests.load_until_closed.Given as goal
 
 abbrev pub invariant-loop : goal.invariant-loop

@@ -1,4 +1,4 @@
-use Rattle.ev_desk.specs.Seen.{asker_view}
+use Rattle.ev_desk.specs.DeskSeen.{asker_view}
 use Rattle.ev_desk.proofs.Stages.{late_same, only_still, idle_back}
 use Rattle.ev_desk.proofs.tests.take_back.Goals as goal
 

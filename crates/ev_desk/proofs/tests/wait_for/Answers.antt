@@ -1,4 +1,4 @@
-use Rattle.ev_desk.specs.Seen.{asker_view}
+use Rattle.ev_desk.specs.DeskSeen.{asker_view}
 use Rattle.std.proofs.Common.{◌∙◌}
 use Rattle.ev_desk.proofs.Stages.{busy_same, only_still, idle_collected}
 use Rattle.ev_desk.proofs.tests.wait_for.Goals as goal

@@ -1,6 +1,6 @@
 use Rattle.std.proofs.Common.{◌≡◌}
-use Rattle.ev_desk.specs.Seen.{asker_view, asker_desk}
-use Rattle.ev_desk.specs.Says.{IsOnlyAsked}
+use Rattle.ev_desk.specs.DeskSeen.{asker_view, asker_desk}
+use Rattle.ev_desk.specs.DeskSays.{IsOnlyAsked}
 use Rattle.ev_desk.proofs.tests.wait_for.Given as goal
 
 abbrev pub invariant-loop : goal.invariant-loop

@@ -1,6 +1,6 @@
 use Rattle.std.proofs.Common.{◌≡◌, ◌-◌, ◌*◌, length}
 use Rattle.ev_draw.specs.Making.{Paints, above, shown_by}
-use Rattle.ev_draw.specs.Rows.{AreMadeFor}
+use Rattle.ev_draw.specs.KeptRows.{AreMadeFor}
 use Rattle.ev_draw.proofs.image.put_image_lines.Given as goal
 
 abbrev pub invariant-loop-y : goal.invariant-loop-y

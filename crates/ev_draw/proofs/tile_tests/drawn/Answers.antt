@@ -3,7 +3,7 @@ use Rattle.ev_geom.specs.Bands.{has_pixel}
 use Rattle.ev_model.specs.Capture.{capture_on}
 use Rattle.ev_model.specs.declared.scene.Record.{Record}
 use Rattle.ev_cmds.specs.Cuts.{Cut, IsCutOf}
-use Rattle.ev_draw.specs.Small.{IsSmallPlane}
+use Rattle.ev_draw.specs.SmallPlanes.{IsSmallPlane}
 use Rattle.ev_draw.proofs.Testing.{still_small}
 use Rattle.ev_draw.proofs.tile_tests.drawn.Goals as goal
 

@@ -1,7 +1,7 @@
 use Rattle.std.proofs.Common.{◌≤◌, ◌+◌, length, take}
 use Rattle.ev_model.specs.Text.{places_text}
 use Rattle.ev_lang.specs.declared.row.TheConstants.{ROW}
-use Rattle.ev_lang.specs.Parts.{IsLaid}
+use Rattle.ev_lang.specs.ReplyParts.{IsLaid}
 use Rattle.ev_lang.proofs.row.write_row.Given as goal
 
 abbrev pub invariant-loop-x : goal.invariant-loop-x

@@ -2,7 +2,7 @@ use Rattle.std.proofs.Common.{◌≡◌, ℕ, if◌then◌else◌, None, drop}
 use Rattle.std.specs.Option.{option_map}
 use Rattle.ev_links.specs.Ties.{has}
 use Rattle.ev_links.specs.Tables.{tie_in, with_clipper}
-use Rattle.ev_links.specs.Kept.{IsKept}
+use Rattle.ev_links.specs.KeptTable.{IsKept}
 use Rattle.ev_links.proofs.edits.unbind_all.Given as goal
 
 -- once those that are left have lost their clipper, all have

@@ -1,6 +1,6 @@
 use Rattle.std.proofs.Common.{◌++◌, None, length, map, filter, filter_map, ap, refl, subst, ◌∙◌}
 use Rattle.ev_model.specs.Up.{is_clipped_by}
-use Rattle.ev_stack.specs.Order.{ids_of, ids_from}
+use Rattle.ev_stack.specs.LayerOrder.{ids_of, ids_from}
 use Rattle.ev_scene.specs.Ids.{of_id, value_of}
 use Rattle.ev_scene.specs.Board.{values_of, MakesAtMost}
 use Rattle.ev_scene.specs.Change.{apply}

@@ -1,5 +1,5 @@
 use Rattle.std.proofs.Common.{refl}
-use Rattle.ev_text.specs.Format.{spelling}
+use Rattle.ev_text.specs.FontFormat.{spelling}
 use Rattle.ev_text.proofs.Spellings.{font_again}
 use Rattle.ev_text.proofs.laws.read_again.Goals as goal
 

@@ -1,7 +1,7 @@
 use Rattle.std.proofs.Common.{subst, arith, Result}
 use Rattle.ev_model.specs.Glyphs.{Glyphs}
 use Rattle.ev_text.specs.declared.fault.BadFont.{BadFont}
-use Rattle.ev_text.specs.Reading.{Gives}
+use Rattle.ev_text.specs.FontReading.{Gives}
 use Rattle.ev_text.proofs.Spellings.{is_found, font_again}
 use Rattle.ev_text.proofs.reading.decode_font.Goals as goal
 

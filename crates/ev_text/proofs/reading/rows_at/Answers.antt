@@ -1,7 +1,7 @@
 use Rattle.std.proofs.Common.{subst, sym, arith, ℕ, List, Result}
 use Rattle.std.proofs.lemmas.List.{take_rest}
 use Rattle.ev_text.specs.declared.fault.BadFont.{BadFont}
-use Rattle.ev_text.specs.Reading.{Gives}
+use Rattle.ev_text.specs.FontReading.{Gives}
 use Rattle.ev_text.proofs.Spellings.{rows_whole}
 use Rattle.ev_text.proofs.reading.rows_at.Goals as goal
 

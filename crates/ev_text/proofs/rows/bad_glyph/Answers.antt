@@ -1,6 +1,6 @@
 use Rattle.std.proofs.Common.{◌≡◌, ◌*◌, ◌∙◌, sym, true, false, arith, get_or, take}
 use Rattle.std.specs.List.{list_all}
-use Rattle.ev_text.specs.Reading.{fits, rows_of}
+use Rattle.ev_text.specs.FontReading.{fits, rows_of}
 use Rattle.ev_text.proofs.Four.{glyph_fits, glyph_bad}
 use Rattle.ev_text.proofs.rows.bad_glyph.Goals as goal
 

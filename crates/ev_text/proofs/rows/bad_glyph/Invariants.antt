@@ -1,5 +1,5 @@
 use Rattle.std.proofs.Common.{◌≡◌, ◌+◌, ◌*◌, drop, length}
-use Rattle.ev_text.specs.Reading.{bad_glyph, rows_of}
+use Rattle.ev_text.specs.FontReading.{bad_glyph, rows_of}
 use Rattle.ev_text.proofs.rows.bad_glyph.Given as goal
 
 abbrev pub invariant-loop-glyph : goal.invariant-loop-glyph

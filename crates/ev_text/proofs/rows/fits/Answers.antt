@@ -1,6 +1,6 @@
 use Rattle.std.proofs.Common.{◌∙◌, sym, ap}
 use Rattle.std.specs.List.{list_all}
-use Rattle.ev_text.specs.Reading.{fits}
+use Rattle.ev_text.specs.FontReading.{fits}
 use Rattle.ev_text.proofs.Four.{fits_more, fits_not, fits_yes, fits_no, rest_none}
 use Rattle.ev_text.proofs.rows.fits.Goals as goal
 

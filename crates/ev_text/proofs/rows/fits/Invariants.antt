@@ -1,6 +1,6 @@
 use Rattle.std.proofs.Common.{◌≡◌, ◌*◌, drop}
 use Rattle.std.specs.List.{list_all}
-use Rattle.ev_text.specs.Reading.{rows_of, fits}
+use Rattle.ev_text.specs.FontReading.{rows_of, fits}
 use Rattle.ev_text.proofs.rows.fits.Given as goal
 
 abbrev pub invariant-loop-i : goal.invariant-loop-i

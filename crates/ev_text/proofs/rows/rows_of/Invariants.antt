@@ -1,5 +1,5 @@
 use Rattle.std.proofs.Common.{◌≡◌, ◌*◌, ◌++◌, drop}
-use Rattle.ev_text.specs.Reading.{rows_of}
+use Rattle.ev_text.specs.FontReading.{rows_of}
 use Rattle.ev_text.proofs.rows.rows_of.Given as goal
 
 abbrev pub invariant-loop-i : goal.invariant-loop-i

@@ -1,7 +1,7 @@
 use Rattle.std.proofs.Common.{◌∙◌, ℕ, Bool, ap}
 use Rattle.std.specs.Prelude.{◌==◌}
 use Rattle.std.specs.Int.{bit_at}
-use Rattle.ev_text.specs.Rows.{bit_sample}
+use Rattle.ev_text.specs.TextRows.{bit_sample}
 use Rattle.ev_model.proofs.Runs.{run_more}
 use Rattle.ev_text.proofs.text.put_bits.Goals as goal
 

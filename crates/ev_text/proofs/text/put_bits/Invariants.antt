@@ -2,7 +2,7 @@ use Rattle.std.proofs.Common.{◌≡◌, ◌++◌, map, drop}
 use Rattle.std.specs.Prelude.{◌==◌}
 use Rattle.std.specs.List.{range_with_len}
 use Rattle.std.specs.Int.{bit_at}
-use Rattle.ev_text.specs.Rows.{bit_sample}
+use Rattle.ev_text.specs.TextRows.{bit_sample}
 use Rattle.ev_text.proofs.text.put_bits.Given as goal
 
 abbrev pub invariant-loop-k : goal.invariant-loop-k

@@ -2,7 +2,7 @@ use Rattle.std.proofs.Common.{◌≡◌, [], false, sum_by, length, replicate, S
 use Rattle.std.proofs.lemmas.List.{length-replicate}
 use Rattle.ev_argb.specs.Grid.{blank_grid}
 use Rattle.ev_buffers.specs.Marks.{in_picture}
-use Rattle.ev_buffers.specs.Chain.{IsLine, AreUnused, is_out, last_picture, painted_at_home}
+use Rattle.ev_buffers.specs.BufferChain.{IsLine, AreUnused, is_out, last_picture, painted_at_home}
 use Rattle.ev_buffers.proofs.Blanks.{blank_fits, blank_line, blank_home, blanks_painted}
 use Rattle.ev_buffers.proofs.Turns.{shows_new, covered_new, stale_new}
 use Rattle.ev_buffers.proofs.buffers.Buffers.create.Goals as goal

@@ -1,5 +1,5 @@
 use Rattle.std.proofs.Common.{◌≡◌, ◌-◌, suc, length, arith, sym, ap, ◌∙◌}
-use Rattle.ev_buffers.specs.Chain.{drawn, FitsChain}
+use Rattle.ev_buffers.specs.BufferChain.{drawn, FitsChain}
 use Rattle.ev_buffers.specs.Kept.{ShowsLast}
 use Rattle.ev_buffers.proofs.Lasts.{drawn_none, drawn_some, borrowed, drawn_fits, drawn_shows, of_found}
 use Rattle.ev_buffers.proofs.buffers.Buffers.last.Goals as goal

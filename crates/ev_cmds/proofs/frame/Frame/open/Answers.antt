@@ -3,7 +3,7 @@ use Rattle.ev_geom.specs.Area.{Area}
 use Rattle.ev_geom.specs.Bands.{has_pixel}
 use Rattle.ev_areas.specs.Edges.{has_pixel_at}
 use Rattle.ev_cmds.specs.Frames.{OpensRow}
-use Rattle.ev_cmds.specs.Jobs.{AreNear}
+use Rattle.ev_cmds.specs.TileJobs.{AreNear}
 use Rattle.ev_areas.specs.declared.edges.Edges.{Edges}
 use Rattle.ev_cmds.proofs.Framing.{rows_more, all_opened}
 use Rattle.ev_cmds.proofs.frame.Frame.open.Goals as goal

@@ -1,6 +1,6 @@
 use Rattle.std.proofs.Common.{◌/◌}
 use Rattle.ev_geom.specs.Tiles.{tiles_along}
-use Rattle.ev_cmds.specs.Jobs.{Moves, waits_from}
+use Rattle.ev_cmds.specs.TileJobs.{Moves, waits_from}
 use Rattle.ev_cmds.proofs.table.Table.take.Given as goal
 
 abbrev pub invariant-loop-row : goal.invariant-loop-row

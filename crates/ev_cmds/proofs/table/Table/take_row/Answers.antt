@@ -1,6 +1,6 @@
 use Rattle.std.proofs.Common.{ℕ, ◌+◌, ◌*◌, arith, subst}
 use Rattle.ev_geom.specs.Tiles.{tiles_along}
-use Rattle.ev_cmds.specs.Jobs.{MovesTile}
+use Rattle.ev_cmds.specs.TileJobs.{MovesTile}
 use Rattle.ev_cmds.proofs.Moving.{tile_more, row_ends}
 use Rattle.ev_cmds.proofs.table.Table.take_row.Goals as goal
 

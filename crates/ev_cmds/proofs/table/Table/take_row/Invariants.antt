@@ -1,5 +1,5 @@
 use Rattle.ev_geom.specs.Tiles.{tiles_along}
-use Rattle.ev_cmds.specs.Jobs.{Moves, waits_from, waits_in}
+use Rattle.ev_cmds.specs.TileJobs.{Moves, waits_from, waits_in}
 use Rattle.ev_cmds.proofs.table.Table.take_row.Given as goal
 
 abbrev pub invariant-loop-column : goal.invariant-loop-column

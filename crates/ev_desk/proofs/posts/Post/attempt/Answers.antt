@@ -1,5 +1,5 @@
 use Rattle.std.proofs.Common.{rules, sym, ap, Some}
-use Rattle.ev_desk.specs.Slots.{place_of}
+use Rattle.ev_desk.specs.DeskSlots.{place_of}
 use Rattle.ev_desk.specs.declared.view.Entry.TheVariants.{Waiting}
 use Rattle.ev_seats.proofs.Lists.{first_slot}
 use Rattle.ev_desk.proofs.LoaderSteps.{tries}

@@ -1,5 +1,5 @@
 use Rattle.std.proofs.Common.{rules, sym, ap, None}
-use Rattle.ev_desk.specs.Slots.{place_of}
+use Rattle.ev_desk.specs.DeskSlots.{place_of}
 use Rattle.ev_desk.proofs.Calls.{leaves_job}
 use Rattle.ev_seats.proofs.Lists.{first_slot}
 use Rattle.ev_desk.proofs.AskerSteps.{empties}

@@ -1,6 +1,6 @@
 use Rattle.std.proofs.Common.{rules, ◌≡◌, ℕ, ◌<◌, ap, ◌∙◌, subst, Some}
 use Rattle.ev_seats.specs.Jobs.{job_of}
-use Rattle.ev_ring.specs.Slots.{slot_of}
+use Rattle.ev_ring.specs.RingSlots.{slot_of}
 use Rattle.ev_ring.specs.declared.view.Entry.TheVariants.{Finished}
 use Rattle.ev_ring.proofs.Calls.{gives_blank}
 use Rattle.ev_seats.proofs.Lists.{first_slot}

@@ -1,5 +1,5 @@
 use Rattle.std.proofs.Common.{rules, ◌≡◌, ℕ, ◌∷◌, sym, ap, ◌∙◌, subst, Some, None}
-use Rattle.ev_ring.specs.Slots.{slot_of, IsFree}
+use Rattle.ev_ring.specs.RingSlots.{slot_of, IsFree}
 use Rattle.ev_ring.specs.Moves.{shelved, Sees, Sat}
 use Rattle.ev_ring.proofs.Calls.{far_slots, gives_job}
 use Rattle.ev_seats.proofs.Lists.{first_slot}

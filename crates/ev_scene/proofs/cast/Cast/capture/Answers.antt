@@ -6,7 +6,7 @@ use Rattle.ev_model.specs.Order.{ids}
 use Rattle.ev_model.specs.Stage.{Stage, values}
 use Rattle.ev_model.specs.Up.{with_id, next}
 use Rattle.ev_model.specs.declared.object.Object.{Object}
-use Rattle.ev_stack.specs.Order.{IsOrder}
+use Rattle.ev_stack.specs.LayerOrder.{IsOrder}
 use Rattle.ev_links.specs.Ties.{IsDistinct}
 use Rattle.ev_scene.specs.Ids.{of_id}
 use Rattle.ev_scene.specs.Board.{values_of, ids_in}

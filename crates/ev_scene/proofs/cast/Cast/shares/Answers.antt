@@ -1,7 +1,7 @@
 use Rattle.std.proofs.Common.{◌≡◌, ℕ, List, ◌++◌, Some, None, subst, ap, ◌∙◌, arith}
 use Rattle.ev_model.specs.Order.{in_order}
 use Rattle.ev_model.specs.Stage.{values}
-use Rattle.ev_stack.specs.Order.{IsOrder}
+use Rattle.ev_stack.specs.LayerOrder.{IsOrder}
 use Rattle.ev_links.specs.Ties.{Has}
 use Rattle.ev_groups.specs.Groups.{group, siblings}
 use Rattle.ev_scene.specs.Board.{values_of, ids_in}

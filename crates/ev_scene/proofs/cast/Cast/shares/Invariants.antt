@@ -1,6 +1,6 @@
 use Rattle.std.proofs.Common.{◌≡◌, ℕ, ◌<◌, ◌++◌, filter_map, drop, get_or, Some}
 use Rattle.ev_model.specs.Stage.{values}
-use Rattle.ev_stack.specs.Order.{IsOrder}
+use Rattle.ev_stack.specs.LayerOrder.{IsOrder}
 use Rattle.ev_groups.specs.Groups.{group}
 use Rattle.ev_scene.specs.Ids.{of_id}
 use Rattle.ev_scene.specs.Board.{values_of}

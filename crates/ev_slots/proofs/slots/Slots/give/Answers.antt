@@ -1,7 +1,7 @@
 use Rattle.std.proofs.Common.{nat_eq, [], ◌∷◌, ◌++◌, None, ap, ◌∙◌, arith}
 use Rattle.std.specs.HashMap.{get}
 use Rattle.slab.specs.Slab.{get as entry, slab_len}
-use Rattle.ev_slots.specs.Kept.{thing_of}
+use Rattle.ev_slots.specs.KeptPlaces.{thing_of}
 use Rattle.ev_slots.proofs.Keeping.{more_given, given_as, one_more, are_given}
 use Rattle.ev_slots.proofs.slots.Slots.give.Goals as goal
 

@@ -1,7 +1,7 @@
 use Rattle.std.proofs.Common.{length, nat_eq, sym, ap, ◌∙◌}
 use Rattle.std.specs.HashMap.{get}
 use Rattle.slab.specs.Slab.{get as entry}
-use Rattle.ev_slots.specs.Kept.{thing_of}
+use Rattle.ev_slots.specs.KeptPlaces.{thing_of}
 use Rattle.ev_slots.proofs.Keeping.{length_up_to}
 use Rattle.ev_slots.proofs.slots.Slots.given.Goals as goal
 

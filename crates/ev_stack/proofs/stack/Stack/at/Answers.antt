@@ -1,5 +1,5 @@
 use Rattle.std.proofs.Common.{◌≡◌, refl, Some, ◌-◌, suc, ◌+◌}
-use Rattle.ev_stack.specs.Order.{above_in, at_place}
+use Rattle.ev_stack.specs.LayerOrder.{above_in, at_place}
 use Rattle.ev_stack.specs.Links.{order_of, climbed}
 use Rattle.ev_stack.proofs.Walks.{none_done, left_more, at_place-climbed}
 use Rattle.ev_stack.proofs.stack.Stack.at.Goals as goal

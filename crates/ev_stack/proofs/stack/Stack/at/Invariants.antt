@@ -1,5 +1,5 @@
 use Rattle.std.proofs.Common.{◌≡◌, ◌-◌}
-use Rattle.ev_stack.specs.Order.{above_in, at_place}
+use Rattle.ev_stack.specs.LayerOrder.{above_in, at_place}
 use Rattle.ev_stack.specs.Links.{order_of, climbed}
 use Rattle.ev_stack.proofs.stack.Stack.at.Given as goal
 

@@ -1,5 +1,5 @@
 use Rattle.std.proofs.Common.{◌≡◌, ◌∙◌, ap}
-use Rattle.ev_stack.specs.Order.{bottom_in}
+use Rattle.ev_stack.specs.LayerOrder.{bottom_in}
 use Rattle.ev_stack.specs.Links.{order_of, id_or_none}
 use Rattle.ev_stack.proofs.Walks.{bottom_in-next_in, ids_from-bottom_in}
 use Rattle.ev_stack.proofs.stack.Stack.bottom.Goals as goal

@@ -2,7 +2,7 @@ use Rattle.std.proofs.Common.{◌≡◌, ◌∙◌, Some, ap, rules}
 use Rattle.std.specs.Int.{w32}
 use Rattle.std.specs.Int.RustNames.{FitsSigned}
 use Rattle.std.proofs.lemmas.Int.{to_z-of_z}
-use Rattle.ev_stack.specs.Order.{layer_in, put_above}
+use Rattle.ev_stack.specs.LayerOrder.{layer_in, put_above}
 use Rattle.ev_stack.specs.Links.{order_of}
 use Rattle.ev_stack.proofs.Places.{IsPut, put_right_above}
 use Rattle.ev_stack.proofs.Moves.{still_there}

@@ -2,7 +2,7 @@ use Rattle.std.proofs.Common.{◌∙◌, ap, rules}
 use Rattle.std.specs.Int.{w32}
 use Rattle.std.specs.Int.RustNames.{FitsSigned}
 use Rattle.std.proofs.lemmas.Int.{to_z-of_z}
-use Rattle.ev_stack.specs.Order.{put_top}
+use Rattle.ev_stack.specs.LayerOrder.{put_top}
 use Rattle.ev_stack.specs.Links.{order_of}
 use Rattle.ev_stack.proofs.Places.{IsPut, put_at_top}
 use Rattle.ev_stack.proofs.stack.Stack.move_to_top.Goals as goal

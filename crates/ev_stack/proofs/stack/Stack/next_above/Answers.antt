@@ -1,5 +1,5 @@
 use Rattle.std.proofs.Common.{◌≡◌, ◌∙◌, ap, sym, subst, None}
-use Rattle.ev_stack.specs.Order.{IsApart, above_in}
+use Rattle.ev_stack.specs.LayerOrder.{IsApart, above_in}
 use Rattle.ev_stack.specs.Links.{order_of, id_or_none}
 use Rattle.ev_stack.proofs.Walks.{above_in-next_in, above_in-absent, ids_from-above_in}
 use Rattle.ev_stack.proofs.stack.Stack.next_above.Goals as goal

@@ -4,7 +4,7 @@ ghost use Rattle.ev_model.specs.Glyphs.{IsText};
 ghost use Rattle.ev_model.specs.declared.command.Edit.TheVariants as edit;
 ghost use Rattle.ev_scene.specs.Board.{MakesAtMost};
 ghost use Rattle.ev_scene.specs.Cast.{IsCast, kept_of, board_of};
-ghost use Rattle.ev_scene.specs.Change.{write_part, written};
+ghost use Rattle.ev_scene.specs.Change.{change_text_part, change_text};
 ghost use Rattle.ev_scene.specs.Edits.{Edits, IsLeft};
 
 use crate::cast::Cast;
@@ -13,32 +13,32 @@ use ev_model::{Content, LoadedFont, Name, Refusal, TextPart, Words};
 
 // A change of the text or of its font. The text keeps the limits of texts.
 #[derive(Drop)]
-pub enum Writing {
+pub enum TextChange {
     Font(Name),
     Load(LoadedFont),
     Say(Words),
 }
 
 // Changes what a content says, if it is that of a text object.
-pub fn write(writing: Writing, content: &mut Content)
-    ensures { content.new ≡ written writing content.old }
+pub fn change_text(change: TextChange, content: &mut Content)
+    ensures { content.new ≡ change_text change content.old }
 {
     match content {
-        Content::Text(part) => write_part(writing, part),
+        Content::Text(part) => change_text_part(change, part),
         _ => {}
     }
 }
 
-fn write_part(writing: Writing, part: &mut TextPart)
-    ensures { part.new ≡ write_part writing part.old }
+fn change_text_part(change: TextChange, part: &mut TextPart)
+    ensures { part.new ≡ change_text_part change part.old }
 {
-    match writing {
-        Writing::Font(key) => {
+    match change {
+        TextChange::Font(key) => {
             part.key = Some(key);
             part.loaded = None;
         }
-        Writing::Load(loaded) => part.loaded = Some(loaded),
-        Writing::Say(text) => part.text = text,
+        TextChange::Load(loaded) => part.loaded = Some(loaded),
+        TextChange::Say(text) => part.text = text,
     }
 }
 
@@ -60,7 +60,7 @@ impl Cast {
         }
         let id = object.id;
         let words = Words::new(self.roll.alloc(), text)?;
-        self.roll.change(id, Change::Write(Writing::Say(words)))?;
+        self.roll.change(id, Change::Text(TextChange::Say(words)))?;
         Ok(())
     }
 }

@@ -2,9 +2,9 @@
 use Rattle.std.specs.Prelude.{◌≡◌, ◌≢◌, ◌⊎◌, ℕ, ◌<◌, ◌≤◌, Bool, List, [], ◌∷◌, Option, Some, None}
 use Rattle.atomic_table.specs.Table.{Me, Step, rest}
 use Rattle.ev_seats.specs.Jobs.{job_of, without, with_job}
-use Rattle.ev_desk.specs.Tally.{IsEnd}
-use Rattle.ev_desk.specs.Steps.{staged, looked_at, took_end, came_late, tried, ended_with, with_loader_out, taken_in}
-use Rattle.ev_desk.specs.Slots.{Slot, end_word, place_of}
+use Rattle.ev_desk.specs.DeskTally.{IsEnd}
+use Rattle.ev_desk.specs.DeskSteps.{staged, looked_at, took_end, came_late, tried, ended_with, with_loader_out, taken_in}
+use Rattle.ev_desk.specs.DeskSlots.{Slot, end_word, place_of}
 use Rattle.ev_desk.specs.declared.view.Stage.TheVariants.{Free, Asked, Ended, Closed}
 use Rattle.ev_desk.specs.declared.view.Counts.{Counts}
 use Rattle.ev_desk.specs.declared.view.View.{View}

@@ -5,7 +5,7 @@ use lib.ListN.{get_elem?}
 use Rattle.atomic_table.specs.Table.{State}
 use Rattle.ev_seats.specs.Jobs.{job_of}
 use Rattle.ev_seats.specs.Homes.{Homes, IsOut, IsBlank, IsHome}
-use Rattle.ev_desk.specs.Tally.{IsEnd, Tally, opening_counts, new_loader, spent_counts}
+use Rattle.ev_desk.specs.DeskTally.{IsEnd, Tally, opening_counts, new_loader, spent_counts}
 use Rattle.ev_desk.specs.declared.view.Role.TheVariants.{Asker}
 use Rattle.ev_desk.specs.declared.view.Stage.{Stage}
 use Rattle.ev_desk.specs.declared.view.Stage.TheVariants.{Asked, Ended}

@@ -1,10 +1,10 @@
 -- What the calls of the desk answer, by the caller's view before and after.
 use Rattle.std.specs.Prelude.{◌≡◌, ◌≢◌, ◌⊎◌, ℕ, ◌+◌, ◌<◌, ◌≤◌, Bool, List, ◌∷◌, map, Option, Some, None, Result, Ok, Err}
 use Rattle.ev_seats.specs.Jobs.{job_of}
-use Rattle.ev_desk.specs.Tally.{IsEnd}
-use Rattle.ev_desk.specs.Steps.{spot_of, try_of, staged, looked_at, took_end, came_late, with_loader, tried}
-use Rattle.ev_desk.specs.Slots.{end_word}
-use Rattle.ev_desk.specs.Moves.{counting, freeing, doing}
+use Rattle.ev_desk.specs.DeskTally.{IsEnd}
+use Rattle.ev_desk.specs.DeskSteps.{spot_of, try_of, staged, looked_at, took_end, came_late, with_loader, tried}
+use Rattle.ev_desk.specs.DeskSlots.{end_word}
+use Rattle.ev_desk.specs.DeskMoves.{counting, freeing, doing}
 use Rattle.ev_desk.specs.declared.view.Stage.{Stage}
 use Rattle.ev_desk.specs.declared.view.Stage.TheVariants.{Free, Asked, Ended, Closed}
 use Rattle.ev_desk.specs.declared.answers.Ask.{Ask}

@@ -1,16 +1,16 @@
-// What an image object draws, and how.
+// Changes of what an image object shows, and how.
 ghost use Rattle.std.specs.Prelude.{◌≡◌, ◌≤◌, ◌&&◌, true, pos, Some, None, IfSome, unsigned_abs, if◌then◌else◌};
 ghost use Rattle.ev_geom.specs.Area.{is_place};
 ghost use Rattle.ev_model.specs.Limits.{IsFill, IsBorder};
-ghost use Rattle.ev_scene.specs.Change.{is_between, draw_part, drawn, is_fill, fill_of, is_border, border_of, IsDrawing, IsLook};
+ghost use Rattle.ev_scene.specs.Change.{is_between, change_image_part, change_image, is_fill, fill_of, is_border, border_of, IsImageChange, IsLook};
 
 use crate::change::{Change, is_between};
 use ev_geom::is_place;
 use ev_model::{Border, Content, Fill, ImagePart, LoadedImage, Name};
 
-// A change of the image that is drawn, or of how that is done. Its numbers are in range.
+// A change of the image that is change_image, or of how that is done. Its numbers are in range.
 #[derive(Drop)]
-pub enum Drawing {
+pub enum ImageChange {
     Fill(Fill),
     Border(Border),
     Center(bool),
@@ -18,39 +18,39 @@ pub enum Drawing {
     Load(LoadedImage),
 }
 
-// Changes how a content is drawn, if it is that of an image object.
-pub fn draw(drawing: Drawing, content: &mut Content)
-    ensures { content.new ≡ drawn drawing content.old }
+// Changes how a content is change_image, if it is that of an image object.
+pub fn change_image(change: ImageChange, content: &mut Content)
+    ensures { content.new ≡ change_image change content.old }
 {
     match content {
-        Content::Image(part) => draw_part(drawing, part),
+        Content::Image(part) => change_image_part(change, part),
         _ => {}
     }
 }
 
-fn draw_part(drawing: Drawing, part: &mut ImagePart)
-    ensures { part.new ≡ draw_part drawing part.old }
+fn change_image_part(change: ImageChange, part: &mut ImagePart)
+    ensures { part.new ≡ change_image_part change part.old }
 {
-    match drawing {
-        Drawing::Fill(fill) => part.fill = fill,
-        Drawing::Border(border) => part.border = border,
-        Drawing::Center(on) => part.center = on,
-        Drawing::File(key) => {
+    match change {
+        ImageChange::Fill(fill) => part.fill = fill,
+        ImageChange::Border(border) => part.border = border,
+        ImageChange::Center(on) => part.center = on,
+        ImageChange::File(key) => {
             part.key = Some(key);
             part.loaded = None;
         }
-        Drawing::Load(loaded) => part.loaded = Some(loaded),
+        ImageChange::Load(loaded) => part.loaded = Some(loaded),
     }
 }
 
 // A change of the area in which an image repeats, where its numbers are in range.
 #[tactic(auto, unfolding(crate::specs::Change::is_fill))]
 pub fn fill(x: i64, y: i64, w: i64, h: i64) -> Option<Change>
-    ensures value { result ≡ (if is_fill x y w h then Some (Change.Draw (Drawing.Fill (fill_of x y w h))) else None) }
+    ensures value { result ≡ (if is_fill x y w h then Some (Change.Image (ImageChange.Fill (fill_of x y w h))) else None) }
     ensures fit { IfSome result IsLook }
 {
     if is_place(x) && is_place(y) && is_extent(w) && is_extent(h) {
-        Some(Change::Draw(Drawing::Fill(fill_of(x, y, w, h))))
+        Some(Change::Image(ImageChange::Fill(fill_of(x, y, w, h))))
     } else {
         None
     }
@@ -81,11 +81,11 @@ fn fill_of(x: i64, y: i64, w: i64, h: i64) -> Fill
 // A change of the borders, where their numbers are in range.
 #[tactic(auto, unfolding(crate::specs::Change::is_border))]
 pub fn border(l: i64, r: i64, t: i64, b: i64) -> Option<Change>
-    ensures value { result ≡ (if is_border l r t b then Some (Change.Draw (Drawing.Border (border_of l r t b))) else None) }
+    ensures value { result ≡ (if is_border l r t b then Some (Change.Image (ImageChange.Border (border_of l r t b))) else None) }
     ensures fit { IfSome result IsLook }
 {
     if is_margin(l) && is_margin(r) && is_margin(t) && is_margin(b) {
-        Some(Change::Draw(Drawing::Border(border_of(l, r, t, b))))
+        Some(Change::Image(ImageChange::Border(border_of(l, r, t, b))))
     } else {
         None
     }

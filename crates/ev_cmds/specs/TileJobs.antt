@@ -9,7 +9,7 @@ use Rattle.ev_model.specs.Capture.{IsLookOn}
 use Rattle.ev_model.specs.Look.{Look, look_of}
 use Rattle.ev_model.specs.declared.scene.Record.{Record}
 use Rattle.ev_areas.specs.Edges.{has_pixel_at}
-use Rattle.ev_cmds.specs.Parts.{any_has}
+use Rattle.ev_cmds.specs.SeenEdges.{any_has}
 use Rattle.ev_cmds.specs.Masks.{has_bit}
 use Rattle.ev_cmds.specs.Patches.{lies}
 use Rattle.ev_cmds.specs.Sheets.{Shows, Fits, IsPaintable}
