@@ -1,3 +1,4 @@
 pub mod Places
 mod Writing
 mod Keeping
+pub mod Seating

@@ -1,5 +1,5 @@
 -- How things are kept: ids lead to places, and a place has a thing with its id. No public clause cites this module.
-use Rattle.std.specs.Prelude.{◌≡◌, ℕ, zero, suc, ◌+◌, ◌^◌, ◌≤◌, ◌==◌, List, [], ◌∷◌, ◌++◌, length, Option, Some, None, option_map, option_and_then, if◌then◌else◌}
+use Rattle.std.specs.Prelude.{◌≡◌, ℕ, zero, suc, ◌+◌, ◌^◌, ◌≤◌, ◌==◌, List, [], ◌∷◌, ◌++◌, length, map, Option, Some, None, option_map, option_and_then, if◌then◌else◌}
 use Rattle.ev_slots.specs.Slots.{live}
 use Rattle.ev_slots.specs.declared.slots.Entry.{Entry}
 
@@ -19,6 +19,10 @@ module _ {T : Type 0} where
   abbrev pub up_to : (ℕ → Option T) → ℕ → List (Option T)
   up_to things zero = []
   up_to things (suc n) = up_to things n ++ things (suc n) ∷ []
+
+  -- the ids in all places
+  abbrev pub seats_of : List (Option (Entry T)) → List (Option ℕ)
+  seats_of entries = map id_in entries
 
 -- each id that was given and whose thing is there leads to the place of that thing, each thing to its id, and no other place is taken
 pub record IsKept {T : Type 0} (given : ℕ) (place_of : ℕ → Option ℕ) (entry_at : ℕ → Option (Entry T)) (taken : ℕ) : Type 0 where

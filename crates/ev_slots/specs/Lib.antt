@@ -1,3 +1,4 @@
 pub mod Slots
+pub mod Seats
 pub mod Lending
 pub mod KeptPlaces

@@ -1,8 +1,9 @@
 // Things by their ids.
-ghost use Rattle.std.specs.Prelude.{ℕ, ◌≡◌, ◌≢◌, ◌+◌, ◌^◌, ◌<◌, ◌≤◌, [], ◌∷◌, ◌++◌, length, None, Some, OnOk, option_copied, OnSome, IfNone, nat_eq};
+ghost use Rattle.std.specs.Prelude.{ℕ, ◌≡◌, ◌≢◌, ◌↔◌, ◌+◌, ◌^◌, ◌<◌, ◌≤◌, [], ◌∷◌, ◌++◌, length, None, Some, OnOk, option_copied, OnSome, IfNone, nat_eq};
 ghost use Rattle.std.specs.Option.{option_copied_mut};
 ghost use Rattle.std.specs.Borrow.{sem};
-ghost use Rattle.ev_slots.specs.Slots.{of_id, put, live};
+ghost use Rattle.ev_slots.specs.Slots.{of_id, put, live, seat};
+ghost use Rattle.ev_slots.specs.Seats.{HavePlaces, SitsDown, StandsUp};
 ghost use Rattle.std.specs.HashMap.{get, spare};
 ghost use Rattle.slab.specs.Slab.{get as entry, slab_len};
 ghost use Rattle.ev_slots.specs.Lending.{LendsThing};
@@ -42,11 +43,16 @@ impl<T> Model for Slots<T> {
     ghost use Rattle.std.specs.HashMap.{get, spare};
     ghost use Rattle.slab.specs.Slab.{get as entry, slab_len};
     ghost use Rattle.ev_slots.specs.Slots.{Slots};
-    ghost use Rattle.ev_slots.specs.KeptPlaces.{IsKept, thing_of, up_to};
+    ghost use Rattle.ev_slots.specs.KeptPlaces.{IsKept, thing_of, up_to, seats_of};
 
     ghost Value = { Slots T };
 
-    ghost view = { λ s. record { slots = up_to (thing_of (get nat_eq s.places) (entry s.entries)) s.given; room = min (2 ^ 62 - s.given) (min (spare s.places) (s.entries.capacity - slab_len s.entries)) } };
+    ghost view = { λ s. record {
+      slots = up_to (thing_of (get nat_eq s.places) (entry s.entries)) s.given;
+      seats = seats_of s.entries.slots;
+      places = s.entries.capacity;
+      room = min (2 ^ 62 - s.given) (min (spare s.places) (s.entries.capacity - slab_len s.entries));
+    } };
 
     ghost invariant = { λ s. IsKept s.given (get nat_eq s.places) (entry s.entries) (slab_len s.entries) };
 }
@@ -79,10 +85,34 @@ impl<T: Drop> Slots<T> {
         self.entries.len()
     }
 
-    // For how many things there are places, taken or not.
-    #[cfg(test)]
-    pub(crate) fn places(&self) -> usize {
+    /// How many places there are, taken or not.
+    pub fn places(&self) -> usize
+        ensures { result ≡ self.now.places }
+    {
         self.entries.capacity()
+    }
+
+    /// The place in which an id sits, if its thing is there.
+    pub fn place(&self, id: u64) -> Option<usize>
+        ensures { (place : ℕ) → (result ≡ Some place) ↔ (seat self.now.seats place ≡ Some id) }
+    {
+        place_of(&self.near, &self.places, &self.entries, id)
+    }
+
+    /// The id that sits in a place, if there is one.
+    pub fn id_in(&self, place: usize) -> Option<u64>
+        ensures { result ≡ seat self.now.seats place }
+    {
+        let entry = self.entries.get(place)?;
+        Some(entry.id)
+    }
+
+    /// Each id whose thing is there sits in a place of its own, and no other id sits anywhere. It
+    /// changes nothing.
+    pub fn laws(&self)
+        ensures { HavePlaces self.now }
+    {
+        let _ = self.entries.capacity();
     }
 
     /// The thing of an id.
@@ -107,6 +137,8 @@ impl<T: Drop> Slots<T> {
     /// Makes room for one more thing.
     pub fn reserve(&mut self) -> Result<(), NoMemory>
         ensures slots { self.new.slots ≡ self.old.slots }
+        ensures seats { self.new.seats ≡ self.old.seats }
+        ensures places { self.old.places ≤ self.new.places }
         ensures ok { OnOk result (0 < self.new.room) }
     {
         if self.given >= MAX_IDS {
@@ -123,7 +155,9 @@ impl<T: Drop> Slots<T> {
     /// Gives the next id, and nothing for it. It takes no memory.
     pub fn give(&mut self)
         requires { length self.old.slots < 2 ^ 62 }
-        ensures { self.new.slots ≡ self.old.slots ++ None ∷ [] }
+        ensures slots { self.new.slots ≡ self.old.slots ++ None ∷ [] }
+        ensures seats { self.new.seats ≡ self.old.seats }
+        ensures places { self.new.places ≡ self.old.places }
     {
         self.given += 1;
     }
@@ -131,7 +165,9 @@ impl<T: Drop> Slots<T> {
     /// Puts a thing under the next id, where room was made for it.
     pub fn push(&mut self, thing: T)
         requires { 0 < self.old.room }
-        ensures { self.new.slots ≡ self.old.slots ++ Some thing ∷ [] }
+        ensures slots { self.new.slots ≡ self.old.slots ++ Some thing ∷ [] }
+        ensures seats { SitsDown self.old.seats self.new.seats (length self.new.slots) }
+        ensures places { self.new.places ≡ self.old.places }
     {
         self.given += 1;
         let place = enter(&mut self.places, &mut self.entries, self.given, thing);
@@ -144,7 +180,9 @@ impl<T: Drop> Slots<T> {
         requires low { 1 ≤ id }
         requires high { id ≤ length self.old.slots }
         requires none { of_id self.old.slots id ≡ None }
-        ensures { self.new.slots ≡ put self.old.slots id (Some thing) }
+        ensures slots { self.new.slots ≡ put self.old.slots id (Some thing) }
+        ensures seats { SitsDown self.old.seats self.new.seats id }
+        ensures places { self.new.places ≡ self.old.places }
     {
         let place = enter(&mut self.places, &mut self.entries, id, thing);
         self.near.note(id, place);
@@ -154,7 +192,9 @@ impl<T: Drop> Slots<T> {
     pub fn take(&mut self, id: u64) -> Option<T>
         ensures value { result ≡ of_id self.old.slots id }
         ensures some { OnSome result (self.new.slots ≡ put self.old.slots id None) }
-        ensures none { IfNone result (self.new.slots ≡ self.old.slots) }
+        ensures none { IfNone result ((self.new.slots ≡ self.old.slots) × (self.new.seats ≡ self.old.seats)) }
+        ensures seats { OnSome result (StandsUp self.old.seats self.new.seats id) }
+        ensures places { self.new.places ≡ self.old.places }
     {
         let place = self.places.remove(&id)?;
         let entry = self.entries.remove(place);
@@ -198,7 +238,8 @@ fn enter<T: Drop>(
 ) -> usize
     requires room { 0 < spare places.old }
     requires place { slab_len entries.old < entries.old.capacity }
-    ensures { Enters (get nat_eq places.old) (entry entries.old) (slab_len entries.old) id thing (get nat_eq places.new) (entry entries.new) (slab_len entries.new) }
+    ensures enters { Enters (get nat_eq places.old) (entry entries.old) (slab_len entries.old) id thing (get nat_eq places.new) (entry entries.new) (slab_len entries.new) }
+    ensures capacity { entries.new.capacity ≡ entries.old.capacity }
 {
     let place = entries.insert_reserved(Entry { id, thing });
     let Ok(_) = places.insert(id, place) else {

@@ -3,6 +3,7 @@ use Rattle.std.specs.HashMap.{get, spare}
 use Rattle.slab.specs.Slab.{get as entry, slab_len, with_value}
 use Rattle.ev_slots.specs.declared.slots.Entry.{Entry}
 use Rattle.ev_slots.proofs.Keeping.{reads_none, reads_place, thing_written, list_written}
+use Rattle.ev_slots.proofs.Seating.{seats_stay}
 use Rattle.ev_slots.proofs.Writing.{written, taken_stays}
 use Rattle.ev_slots.proofs.slots.Slots.get_mut.Goals as goal
 
@@ -37,7 +38,8 @@ returns g c =
     let list = λ (w : g.row.T.Denot). list_written c.self.inside.given (get nat_eq c.self.inside.places) (entry c.self.inside.entries) (slab_len c.self.inside.entries) c.self.invariant c.args.id c.in_ok-place.place c.in_ok-entry.entry.now (get nat_eq c.self.inside.places)
     (entry (with_value c.self.inside.entries c.in_ok-place.place (with w))) (sym c.in_ok-place.ensures) there w (written c.self.inside.entries c.in_ok-place.place c.in_ok-entry.entry.now (with w) there) in
     let stays = λ (w : g.row.T.Denot). taken_stays c.self.inside.entries c.in_ok-place.place c.in_ok-entry.entry.now (with w) there in
+    let seats = λ (w : g.row.T.Denot). seats_stay c.self.inside.entries.slots c.in_ok-place.place c.in_ok-entry.entry.now (with w) there refl in
     rw (← c.self.view_is) (
-      lent _ (λ i w. record { slots = list w i; room = min (2 ^ 62 - c.self.inside.given) (min (spare c.self.inside.places) (c.self.inside.entries.capacity - stays w i)) }),
+      lent _ (λ i w. record { slots = list w i; seats = seats w i; places = c.self.inside.entries.capacity; room = min (2 ^ 62 - c.self.inside.given) (min (spare c.self.inside.places) (c.self.inside.entries.capacity - stays w i)) }),
       record { writes_back = tt; value = sym (reads_place c.self.inside.given (get nat_eq c.self.inside.places) (entry c.self.inside.entries) (slab_len c.self.inside.entries) c.self.invariant _ c.args.id c.in_ok-place.place (Some c.in_ok-entry.entry.now) refl (sym c.in_ok-place.ensures) there) },
     )

@@ -11,7 +11,7 @@ invariant_of-self g c =
     let n = given_as c.self.inside.given (get nat_eq c.self.inside.places) (entry c.self.inside.entries) (slab_len c.self.inside.entries) c.self.invariant c.args.self.now.slots is in let few = c.requires in
     more_given c.self.inside.given (get nat_eq c.self.inside.places) (entry c.self.inside.entries) (slab_len c.self.inside.entries) c.self.invariant (omega (arith, n, few))
 
-pub returns : goal.returns
-returns g c =
+pub returns-clause-slots : goal.returns-clause-slots
+returns-clause-slots g c =
     one_more (thing_of (get nat_eq c.self.inside.places) (entry c.self.inside.entries)) c.self.inside.given (are_given c.self.inside.given (get nat_eq c.self.inside.places) (entry c.self.inside.entries) (slab_len c.self.inside.entries) c.self.invariant)
     ∙ ap (λ s. s.slots ++ None ∷ []) c.self.view_is

@@ -2,7 +2,8 @@ use Rattle.std.proofs.Common.{nat_eq, Some, None, sym, ap, ◌∙◌}
 use Rattle.std.specs.HashMap.{get}
 use Rattle.slab.specs.Slab.{get as entry, slab_len}
 use Rattle.ev_slots.specs.Slots.{put}
-use Rattle.ev_slots.proofs.Keeping.{reads_none, reads_place, has_entry, thing_taken, list_taken}
+use Rattle.ev_slots.proofs.Keeping.{reads_none, reads_place, has_entry, thing_taken, list_taken, its_id}
+use Rattle.ev_slots.proofs.Seating.{stands_up}
 use Rattle.ev_slots.proofs.slots.Slots.take.Goals as goal
 
 pub remove-entry-requires : goal.remove-entry-requires
@@ -26,3 +27,8 @@ returns-clause-some g c =
     list_taken c.self.inside.given (get nat_eq c.self.inside.places) (entry c.self.inside.entries) (slab_len c.self.inside.entries) c.self.invariant c.args.id c.in_ok-place.place c.remove-entry.result (get nat_eq c.remove.new.self) (entry c.remove-entry.new.self) (sym (c.in_ok-place.ensures).value) c.remove-entry.ensures.value
     (c.in_ok-place.ensures).updates.0 c.remove-entry.ensures.updates.changed c.remove-entry.ensures.updates.others
     ∙ ap (λ s. put s.slots c.args.id None) c.self.view_is
+
+pub returns-clause-seats : goal.returns-clause-seats
+returns-clause-seats g c =
+    let own = its_id c.self.inside.given (get nat_eq c.self.inside.places) (entry c.self.inside.entries) (slab_len c.self.inside.entries) c.self.invariant c.args.id c.in_ok-place.place c.remove-entry.result (get nat_eq c.remove.new.self) (entry c.remove-entry.new.self) (sym (c.in_ok-place.ensures).value) c.remove-entry.ensures.value in
+    rw (← c.self.view_is) (stands_up c.self.inside.entries.slots c.remove-entry.new.self.slots c.args.id c.in_ok-place.place c.remove-entry.result c.remove-entry.ensures.value own c.remove-entry.ensures.updates.changed c.remove-entry.ensures.updates.others)
