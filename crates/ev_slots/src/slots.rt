@@ -192,8 +192,9 @@ impl<T: Drop> Slots<T> {
     pub fn take(&mut self, id: u64) -> Option<T>
         ensures value { result ≡ of_id self.old.slots id }
         ensures some { OnSome result (self.new.slots ≡ put self.old.slots id None) }
-        ensures none { IfNone result ((self.new.slots ≡ self.old.slots) × (self.new.seats ≡ self.old.seats)) }
-        ensures seats { OnSome result (StandsUp self.old.seats self.new.seats id) }
+        ensures none { IfNone result (self.new.slots ≡ self.old.slots) }
+        ensures left { OnSome result (StandsUp self.old.seats self.new.seats id) }
+        ensures stayed { IfNone result (self.new.seats ≡ self.old.seats) }
         ensures places { self.new.places ≡ self.old.places }
     {
         let place = self.places.remove(&id)?;

@@ -28,7 +28,7 @@ returns-clause-some g c =
     (c.in_ok-place.ensures).updates.0 c.remove-entry.ensures.updates.changed c.remove-entry.ensures.updates.others
     ∙ ap (λ s. put s.slots c.args.id None) c.self.view_is
 
-pub returns-clause-seats : goal.returns-clause-seats
-returns-clause-seats g c =
+pub returns-clause-left : goal.returns-clause-left
+returns-clause-left g c =
     let own = its_id c.self.inside.given (get nat_eq c.self.inside.places) (entry c.self.inside.entries) (slab_len c.self.inside.entries) c.self.invariant c.args.id c.in_ok-place.place c.remove-entry.result (get nat_eq c.remove.new.self) (entry c.remove-entry.new.self) (sym (c.in_ok-place.ensures).value) c.remove-entry.ensures.value in
     rw (← c.self.view_is) (stands_up c.self.inside.entries.slots c.remove-entry.new.self.slots c.args.id c.in_ok-place.place c.remove-entry.result c.remove-entry.ensures.value own c.remove-entry.ensures.updates.changed c.remove-entry.ensures.updates.others)
