@@ -27,7 +27,7 @@ pub fn write_shown<K: Sink>(
     write_updates(sink, updates)
 }
 
-#[tactic(auto, unfolding(crate::specs::Parts::heading_text))]
+#[tactic(auto, unfolding(crate::specs::ReplyParts::heading_text))]
 fn heading(n: u64, w: u32, h: u32, updates: u64) -> Draft<LINE>
     ensures { result ≡ heading_text n w h updates }
 {

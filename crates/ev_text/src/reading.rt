@@ -32,7 +32,7 @@ pub fn decode_font(alloc: Global, bytes: &[u8]) -> Result<Font, BadFont>
 }
 
 // What `decode_font` gives, before it is known which fonts stand in which bytes.
-#[tactic(auto, unfolding(crate::specs::Reading::font_at))]
+#[tactic(auto, unfolding(crate::specs::FontReading::font_at))]
 fn font_at(alloc: Global, bytes: &[u8]) -> Result<Font, BadFont>
     ensures { Gives (λ font. font) result (font_at bytes.now) }
 {
@@ -50,7 +50,7 @@ fn begins(word: &[u8], bytes: &[u8]) -> bool
 }
 
 // The height, where all bytes before the rows are there.
-#[tactic(auto, unfolding(crate::specs::Reading::height_at))]
+#[tactic(auto, unfolding(crate::specs::FontReading::height_at))]
 fn height_at(bytes: &[u8]) -> Result<u32, BadFont>
     ensures height { result ≡ height_at bytes.now }
     ensures long { IfOk result (λ height. (100 ≤ length bytes.now) × (1 ≤ height) × (height ≤ 32)) }
@@ -72,7 +72,7 @@ fn height_at(bytes: &[u8]) -> Result<u32, BadFont>
 }
 
 // The widths of the glyphs.
-#[tactic(auto, unfolding(crate::specs::Reading::widths_at))]
+#[tactic(auto, unfolding(crate::specs::FontReading::widths_at))]
 fn widths_at(bytes: &[u8]) -> Result<&[u8], BadFont>
     requires { 100 ≤ length bytes.now }
     ensures widths { Gives (λ widths. widths.now) result (widths_at bytes.now) }
@@ -99,7 +99,7 @@ fn wide_glyph(widths: &[u8]) -> Option<usize>
 }
 
 // The rows of the glyphs, which end the bytes.
-#[tactic(auto, unfolding(crate::specs::Reading::rows_at))]
+#[tactic(auto, unfolding(crate::specs::FontReading::rows_at))]
 fn rows_at(alloc: Global, height: u32, widths: &[u8], bytes: &[u8]) -> Result<Vec<u32>, BadFont>
     requires height { height ≤ 32 }
     requires widths { All (λ width. width ≤ 32) widths.now }
