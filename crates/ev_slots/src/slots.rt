@@ -60,7 +60,8 @@ impl<T> Model for Slots<T> {
 impl<T: Drop> Slots<T> {
     /// No things, and no id was given.
     pub fn new(alloc: Global) -> Slots<T>
-        ensures { result.slots ≡ [] }
+        ensures slots { result.slots ≡ [] }
+        ensures seats { result.seats ≡ [] }
     {
         Slots {
             given: 0,

@@ -1,0 +1,9 @@
+//! Things by their ids, and what they were before they were changed.
+#![tactic(auto)]
+
+mod marks;
+mod tracked;
+
+pub use ev_slots::NoMemory;
+pub use marks::Marks;
+pub use tracked::Tracked;
