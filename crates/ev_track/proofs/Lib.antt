@@ -1,1 +1,2 @@
 pub mod Tracking
+mod Settlings

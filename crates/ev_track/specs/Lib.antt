@@ -1,3 +1,4 @@
 pub mod Marked
 pub mod Tracks
 pub mod LendsTracked
+pub mod Settling

@@ -2,6 +2,9 @@
 #![tactic(auto)]
 
 mod marks;
+mod settle;
+#[cfg(test)]
+mod tests;
 mod tracked;
 
 pub use ev_slots::NoMemory;

@@ -19,10 +19,10 @@ use std::marker::Model;
 /// may have changed alone (docs/ARCHITECTURE.md, "Records").
 #[derive(Drop)]
 pub struct Tracked<T> {
-    slots: Slots<Shared<T>>,
-    was: Vec<Option<Shared<T>>>,
+    pub(crate) slots: Slots<Shared<T>>,
+    pub(crate) was: Vec<Option<Shared<T>>>,
     // The places that may have changed.
-    marks: Marks,
+    pub(crate) marks: Marks,
 }
 
 impl<T> Model for Tracked<T> {
