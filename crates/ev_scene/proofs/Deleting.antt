@@ -225,10 +225,7 @@ module _ {w h : ℕ} {objects : List (Option Object)} {groups : List (List (ℕ 
         → groups' ≡ emptied gone (gone_from o.parent o groups) → ((q : ℕ) → get ties' q ≡ option_map tie_of (left_at q)) → IsWhole (record { w = w; h = h; objects = objects'; groups = groups' }) ties'
     deleted_whole objects' groups' ties' e f tied' =
         subst (λ objects. IsWhole (record { w = w; h = h; objects = objects; groups = groups' }) ties') (sym e) (record {
-          w_low = whole.w_low;
-          w_high = whole.w_high;
-          h_low = whole.h_low;
-          h_high = whole.h_high;
+          canvas = whole.canvas;
           own = λ q p' at. let was = before q p' at in (was.1.1).id ∙ whole.own q was.0 was.1.0;
           limits = λ q p' at. let was = before q p' at in (was.1.1).limits (whole.limits q was.0 was.1.0);
           stands = λ at q. ap (λ groups. layer_in (get_or groups at []) q) f ∙ standing at q ∙ sym (ap (option_and_then (layer_at at)) (of_id_each (left gone) objects q));

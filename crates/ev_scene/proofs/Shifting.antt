@@ -135,10 +135,7 @@ module _ {w h : ℕ} {objects : List (Option Object)} {groups : List (List (ℕ 
   pub looked_all : (objects' : List (Option Object)) (f : ℕ → Object → Object) → length objects' ≡ length objects → ((id : ℕ) → of_id objects' id ≡ option_map (f id) (of_id objects id)) → ((id : ℕ) (o : Object) → IsSameStand o (f id o))
       → IsWhole (record { w = w; h = h; objects = objects'; groups = groups }) ties
   looked_all objects' f size at stand = record {
-    w_low = whole.w_low;
-    w_high = whole.w_high;
-    h_low = whole.h_low;
-    h_high = whole.h_high;
+    canvas = whole.canvas;
     own = λ id t there. was id t (λ t. t.id ≡ id) there (λ o e. (stand id o).id ∙ whole.own id o e);
     limits = λ id t there. was id t IsObject there (λ o e. (stand id o).limits (whole.limits id o e));
     stands = λ place id. whole.stands place id ∙ sym (ap (option_and_then (layer_at place)) (at id) ∙ same_layer place id (of_id objects id));

@@ -131,10 +131,7 @@ module _ {w h : ℕ} {objects : List (Option Object)} {groups : List (List (ℕ 
   -- groups with the same layers
   pub regrouped : (groups' : List (List (ℕ × ℤ))) → length groups' ≡ length groups → ((at q : ℕ) → layer_in (get_or groups' at []) q ≡ layer_in (get_or groups at []) q) → IsWhole (record { w = w; h = h; objects = objects; groups = groups' }) ties
   regrouped groups' size same = record {
-    w_low = whole.w_low;
-    w_high = whole.w_high;
-    h_low = whole.h_low;
-    h_high = whole.h_high;
+    canvas = whole.canvas;
     own = whole.own;
     limits = whole.limits;
     stands = λ at q. same at q ∙ whole.stands at q;
@@ -168,10 +165,7 @@ module _ {w h : ℕ} {objects : List (Option Object)} {groups : List (List (ℕ 
         → ((q : ℕ) → get ties' q ≡ (if q == id then Some (tie_of o') else get ties q))
         → IsWhole (record { w = w; h = h; objects = put objects id (Some o'); groups = groups' }) ties'
     replaced groups' ties' size layers tied' = record {
-      w_low = whole.w_low;
-      w_high = whole.w_high;
-      h_low = whole.h_low;
-      h_high = whole.h_high;
+      canvas = whole.canvas;
       own = replaced_fact (λ q t. t.id ≡ q) own' whole.own;
       limits = replaced_fact (λ q t. IsObject t) limits' whole.limits;
       stands = λ at q. layers at q ∙ ap (λ layer. if q == id then layer_at at o' else layer) (whole.stands at q) ∙ sym (mapped (layer_at at) q);
@@ -358,10 +352,7 @@ module _ {w h : ℕ} {objects : List (Option Object)} {groups : List (List (ℕ 
     -- a tie that was added and dropped again
     pub undone : (id : ℕ) (kind : Kind) (ties' ties'' : Ties) → id ≡ length objects + 1 → ties' ≡ insert ties id (alone kind) → Drops ties' id ties'' → IsWhole (record { w = w; h = h; objects = objects; groups = groups }) ties''
     undone id kind ties' ties'' next e drops = record {
-      w_low = whole.w_low;
-      w_high = whole.w_high;
-      h_low = whole.h_low;
-      h_high = whole.h_high;
+      canvas = whole.canvas;
       own = whole.own;
       limits = whole.limits;
       stands = whole.stands;
@@ -394,10 +385,7 @@ module _ {w h : ℕ} {objects : List (Option Object)} {groups : List (List (ℕ 
       → objects' ≡ objects ++ Some o ∷ [] → groups' ≡ with_group groups None (put_top (group groups None) id (pos 0)) ++ [] ∷ [] → ties' ≡ insert ties id (tie_of o) → IsWhole (record { w = w; h = h; objects = objects'; groups = groups' }) ties'
   made id o objects' groups' ties' next own free low limits e f g =
       subst (λ objects. IsWhole (record { w = w; h = h; objects = objects; groups = groups' }) ties') (sym e) (record {
-        w_low = whole.w_low;
-        w_high = whole.w_high;
-        h_low = whole.h_low;
-        h_high = whole.h_high;
+        canvas = whole.canvas;
         own = new_fact (λ q t. t.id ≡ q) own whole.own;
         limits = new_fact (λ q t. IsObject t) limits whole.limits;
         stands = λ at q. ap (λ groups. layer_in (get_or groups at []) q) f ∙ ap (λ g. layer_in g q) (get_end (with_group groups None (put_top (group groups None) id (pos 0))) at) ∙ layers at q ∙ sym (mapped (layer_at at) q);
@@ -448,10 +436,7 @@ module _ {w h : ℕ} {objects : List (Option Object)} {groups : List (List (ℕ 
 -- before anything was made
 pub at_start : (states : List (Option (Held Object))) (groups : List (List (ℕ × ℤ))) (ties : Ties) → states ≡ [] → groups ≡ [] ∷ [] → ties ≡ empty → IsWhole (record { w = 320; h = 240; objects = values_of states; groups = groups }) ties
 at_start states groups ties e f g = rw (e, f, g) (record {
-  w_low = omega arith;
-  w_high = omega arith;
-  h_low = omega arith;
-  h_high = omega arith;
+  canvas = record { w_low = omega arith; w_high = omega arith; h_low = omega arith; h_high = omega arith };
   own = λ id o there. absurd (none-some o (sym (none id) ∙ there));
   limits = λ id o there. absurd (none-some o (sym (none id) ∙ there));
   stands = λ at id. nobody at id ∙ sym (ap (option_and_then (layer_at at)) (none id));

@@ -7,6 +7,7 @@ pub mod Edits
 pub mod Kinds
 pub mod ObjectLoads
 pub mod Given
+pub mod CanvasSize
 pub mod Sound
 pub mod Shot
 pub mod Roll

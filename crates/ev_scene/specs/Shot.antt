@@ -1,5 +1,5 @@
 -- Scenes as they are captured.
-use Rattle.std.specs.Prelude.{◌≡◌, ◌≢◌, ℕ, ℤ, ◌≤◌, All, AllPairs, List, map, Some, None}
+use Rattle.std.specs.Prelude.{◌≡◌, ◌≢◌, ℕ, ℤ, All, AllPairs, List, map, Some, None}
 use Rattle.ev_model.specs.Capture.{IsLookOn}
 use Rattle.ev_model.specs.Limits.{AreObjects}
 use Rattle.ev_model.specs.Look.{look_of, looks}
@@ -9,6 +9,7 @@ use Rattle.ev_model.specs.declared.scene.Scene.{Scene}
 use Rattle.ev_stack.specs.LayerOrder.{IsOrder}
 use Rattle.ev_links.specs.Ties.{Has}
 use Rattle.ev_groups.specs.Groups.{group}
+use Rattle.ev_scene.specs.CanvasSize.{IsCanvas}
 use Rattle.ev_scene.specs.Sound.{IsSound}
 
 -- those that stand in no object are an order, and so are the members of each of these ids
@@ -24,10 +25,7 @@ pub record Shot : Type 0 where
 -- the scene keeps its limits and is sound, and the records are its looks in their order: their ids differ as well, and each is as a
 -- redraw of the scene asks
 pub record IsShot (shot : Shot) : Type 0 where
-  pub w_low : 1 ≤ shot.scene.w
-  pub w_high : shot.scene.w ≤ 4096
-  pub h_low : 1 ≤ shot.scene.h
-  pub h_high : shot.scene.h ≤ 4096
+  pub canvas : IsCanvas shot.scene.w shot.scene.h
   pub objects : AreObjects shot.scene.objects
   pub sound : IsSound (stage shot.scene)
   pub looks : map look_of shot.records ≡ looks (stage shot.scene)

@@ -1,5 +1,5 @@
 -- What holds of each scene.
-use Rattle.std.specs.Prelude.{◌≡◌, ℕ, ◌≤◌, ◌+◌, [], length, get_or, Some}
+use Rattle.std.specs.Prelude.{◌≡◌, ℕ, ◌+◌, [], length, get_or, Some}
 use Rattle.std.specs.FinMap.{get}
 use Rattle.std.specs.Option.{option_map, option_and_then}
 use Rattle.ev_model.specs.Limits.{IsObject}
@@ -8,15 +8,13 @@ use Rattle.ev_stack.specs.LayerOrder.{layer_in}
 use Rattle.ev_links.specs.Ties.{Ties}
 use Rattle.ev_scene.specs.Ids.{of_id}
 use Rattle.ev_scene.specs.Board.{Board}
+use Rattle.ev_scene.specs.CanvasSize.{IsCanvas}
 use Rattle.ev_scene.specs.ObjectTies.{tie_of, layer_at}
 
--- the canvas has 1 to 4096 columns and rows; each object stands under its id and keeps its limits; exactly the objects of a parent
+-- the canvas has its limits; each object stands under its id and keeps its limits; exactly the objects of a parent
 -- stand in its group, each with its layer; and the ties are those of the objects
 pub record IsWhole (scene : Board) (ties : Ties) : Type 0 where
-  pub w_low : 1 ≤ scene.w
-  pub w_high : scene.w ≤ 4096
-  pub h_low : 1 ≤ scene.h
-  pub h_high : scene.h ≤ 4096
+  pub canvas : IsCanvas scene.w scene.h
   pub own : (id : ℕ) (o : Object) → of_id scene.objects id ≡ Some o → o.id ≡ id
   pub limits : (id : ℕ) (o : Object) → of_id scene.objects id ≡ Some o → IsObject o
   pub stands : (at id : ℕ) → layer_in (get_or scene.groups at []) id ≡ option_and_then (layer_at at) (of_id scene.objects id)

@@ -43,10 +43,7 @@ invariant_of-result c =
     subst Q (sym (c.in_ok-objects.ensures).objects) (order_once c.requires c.len-ties.ensures.sound
     (λ at. (all at).distinct)) in
     record {
-      w_low = c.requires.w_low;
-      w_high = c.requires.w_high;
-      h_low = c.requires.h_low;
-      h_high = c.requires.h_high;
+      canvas = c.requires.canvas;
       objects = are_objects c.in_ok-objects.objects limits;
       sound =
           subst R (sym (c.in_ok-objects.ensures).objects)

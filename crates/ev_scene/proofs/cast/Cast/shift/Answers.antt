@@ -8,17 +8,17 @@ use Rattle.ev_scene.proofs.Moving.{passed, not_passed, told_places, told_place, 
 use Rattle.ev_scene.proofs.Verdicts.{has_state}
 use Rattle.ev_scene.proofs.cast.Cast.shift.Goals as goal
 
-pub returns-in_default-place-clause-edits : goal.returns-in_default-place-clause-edits
-returns-in_default-place-clause-edits c =
+pub returns-in_default-move_to-clause-edits : goal.returns-in_default-move_to-clause-edits
+returns-in_default-move_to-clause-edits c =
     let x : FitsSigned w64 c.args.x = search rules in
     let y : FitsSigned w64 c.args.y = search rules in (
       no_place (board_of c.args.self.now) c.args.name.now c.in-Some.object.now (c.in-Some.ensures).value c.args.x c.args.y (c.in-Some.ensures).there
-          (told_places c.args.x c.args.y x y ∙ not_passed _ _ (c.in_default-place.ensures).value),
+          (told_places c.args.x c.args.y x y ∙ not_passed _ _ (c.in_default-move_to.ensures).value),
       refl,
     )
 
 pub distance-dy-requires-clause-to : goal.distance-dy-requires-clause-to
-distance-dy-requires-clause-to c = (and_parts _ _ (passed _ _ _ (c.in-Some-place.ensures).value).0).1
+distance-dy-requires-clause-to c = (and_parts _ _ (passed _ _ _ (c.in-Some-move_to.ensures).value).0).1
 
 pub returns-then-is_smart-clause-edits : goal.returns-then-is_smart-clause-edits
 returns-then-is_smart-clause-edits c =
@@ -47,20 +47,20 @@ returns-in_err-change-clause-edits c =
     let x : FitsSigned w64 c.args.x = search rules in
     let y : FitsSigned w64 c.args.y = search rules in
     one_refused (board_of c.args.self.now) c.args.name.now c.in-Some.object.now (c.in-Some.ensures).value c.args.x c.args.y (sym c.is_smart.ensures ∙ c.if-is_smart.false)
-    (told_places c.args.x c.args.y x y ∙ (passed _ _ _ (c.in-Some-place.ensures).value).0) c.from_residual.result _ c.from_residual.ensures.1 (ap (λ states. record (board_of c.args.self.now) { objects = values_of states }) (c.in_err-change.ensures).err)
+    (told_places c.args.x c.args.y x y ∙ (passed _ _ _ (c.in-Some-move_to.ensures).value).0) c.from_residual.result _ c.from_residual.ensures.1 (ap (λ states. record (board_of c.args.self.now) { objects = values_of states }) (c.in_err-change.ensures).err)
 
 pub returns-clause-whole : goal.returns-clause-whole
 returns-clause-whole c =
-    looked c.requires.whole c.in-Some.object.now.id c.in-Some.object.now c.in-Some-place.change
-    (values_of c.change.new.self.states) (c.in-Some.ensures).there (c.in-Some-place.ensures).fit (c.in_ok-change.ensures).ok
+    looked c.requires.whole c.in-Some.object.now.id c.in-Some.object.now c.in-Some-move_to.change
+    (values_of c.change.new.self.states) (c.in-Some.ensures).there (c.in-Some-move_to.ensures).fit (c.in_ok-change.ensures).ok
 
 pub returns-clause-edits : goal.returns-clause-edits
 returns-clause-edits c =
     let x : FitsSigned w64 c.args.x = search rules in
     let y : FitsSigned w64 c.args.y = search rules in
     one_answers (board_of c.args.self.now) c.args.name.now c.in-Some.object.now (c.in-Some.ensures).value c.args.x c.args.y (sym c.is_smart.ensures ∙ c.if-is_smart.false)
-    (told_places c.args.x c.args.y x y ∙ (passed _ _ _ (c.in-Some-place.ensures).value).0) c.in-Some-place.change (values_of c.change.new.self.states)
-    ((passed _ _ _ (c.in-Some-place.ensures).value).1 ∙ told_place c.args.x c.args.y x y) (c.in-Some.ensures).there (c.in_ok-change.ensures).ok
+    (told_places c.args.x c.args.y x y ∙ (passed _ _ _ (c.in-Some-move_to.ensures).value).0) c.in-Some-move_to.change (values_of c.change.new.self.states)
+    ((passed _ _ _ (c.in-Some-move_to.ensures).value).1 ∙ told_place c.args.x c.args.y x y) (c.in-Some.ensures).there (c.in_ok-change.ensures).ok
 
 pub returns-clause-made : goal.returns-clause-made
 returns-clause-made c =
