@@ -48,10 +48,18 @@ impl Cast {
             Edit::Member { name, smart } => self.join(name, smart),
             Edit::Free { name } => self.leave(name),
             Edit::File { name, key } => {
-                self.change(name, Target::Image, Some(Change::Image(ImageChange::File(*key))))
+                self.change(
+                    name,
+                    Target::Image,
+                    Some(Change::Image(ImageChange::File(*key))),
+                )
             }
             Edit::Font { name, key } => {
-                self.change(name, Target::Text, Some(Change::Text(TextChange::Font(*key))))
+                self.change(
+                    name,
+                    Target::Text,
+                    Some(Change::Text(TextChange::Font(*key))),
+                )
             }
             Edit::Say { name, text } => self.say(name, text),
             Edit::Fill { name, x, y, w, h } => {

@@ -8,7 +8,7 @@ use crate::change::{Change, is_between};
 use ev_geom::is_place;
 use ev_model::{Border, Content, Fill, ImagePart, LoadedImage, Name};
 
-// A change of the image that is change_image, or of how that is done. Its numbers are in range.
+// A change of the image that an object shows, or of how that is done. Its numbers are in range.
 #[derive(Drop)]
 pub enum ImageChange {
     Fill(Fill),
@@ -18,7 +18,7 @@ pub enum ImageChange {
     Load(LoadedImage),
 }
 
-// Changes how a content is change_image, if it is that of an image object.
+// Changes what a content shows, if it is that of an image object.
 pub fn change_image(change: ImageChange, content: &mut Content)
     ensures { content.new ≡ change_image change content.old }
 {

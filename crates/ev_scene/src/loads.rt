@@ -44,7 +44,8 @@ impl Cast {
         ensures made { MakesAtMost 1 self.old.roll.made self.new.roll.made }
     {
         let loaded = LoadedImage::new(number, image);
-        self.roll.change(id, Change::Image(ImageChange::Load(loaded)))?;
+        self.roll
+            .change(id, Change::Image(ImageChange::Load(loaded)))?;
         Ok(())
     }
 
@@ -64,7 +65,8 @@ impl Cast {
         ensures made { MakesAtMost 1 self.old.roll.made self.new.roll.made }
     {
         let loaded = LoadedFont::new(number, font);
-        self.roll.change(id, Change::Text(TextChange::Load(loaded)))?;
+        self.roll
+            .change(id, Change::Text(TextChange::Load(loaded)))?;
         Ok(())
     }
 }
