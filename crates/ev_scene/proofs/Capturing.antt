@@ -24,15 +24,6 @@ all_done xs all e = sym (append-nil xs) ∙ e
 pub pick_next : {A B : Type 0} (find : A → Option B) (xs : List A) (i : ℕ) (d : A) → i < length xs → filter_map find (drop i xs) ≡ cons_option (find (get_or xs i d)) (filter_map find (drop (i + 1) xs))
 pick_next find xs i d low = let k : suc i ≡ i + 1 = omega arith in ap (filter_map find) (drop-cons xs i d low) ∙ ap (λ k. cons_option (find (get_or xs i d)) (filter_map find (drop k xs))) k
 
--- what is seen of one more object of a list
-pub one_more_seen : {B : Type 0} (see : Object → Option B) (items : List (Held Object)) (i : ℕ) (item : Held Object) (so_far now all : List B) → i < length items → item ≡ get_or items i item
-    → now ≡ so_far ++ option_to_list (see item.value) → so_far ++ filter_map see (values (drop i items)) ≡ all → now ++ filter_map see (values (drop (i + 1) items)) ≡ all
-one_more_seen see items i item so_far now all h is e f =
-    let next : drop i items ≡ item ∷ drop (suc i) items = drop-cons items i item h ∙ ap (λ x. x ∷ drop (suc i) items) (sym is) in
-    let k : i + 1 ≡ suc i = omega arith in
-    one_more so_far now (filter_map see (values (drop (i + 1) items))) all (see item.value) e
-    (ap (λ k. so_far ++ cons_option (see item.value) (filter_map see (values (drop k items)))) k ∙ sym (ap (λ rest. so_far ++ filter_map see (values rest)) next) ∙ f)
-
 -- a share of the state of an id on top of others
 pub pushed : (states : List (Option (Held Object))) (objects objects' : List (Held Object)) (id : ℕ) (s s' : Held Object) → objects' ≡ objects ++ s' ∷ [] → s' ≡ s → Some s ≡ of_id states id
     → values objects' ≡ values objects ++ option_to_list (of_id (values_of states) id)

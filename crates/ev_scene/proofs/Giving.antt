@@ -145,9 +145,9 @@ module _ (P : Loaded Raster → Type 0) (Q : Loaded Glyphs → Type 0) where
     go false true = record { image = h.image; font = h.font }
     go false false = h
 
-  shifts : (dx dy : ℤ) (board : Board) (o : Object) (slot : Option Object) → IfSome slot H → IfSome (option_map (λ p. if has (inside board o) p.id then shifted_by dx dy p else p) slot) H
-  shifts dx dy board o None h = tt
-  shifts dx dy board o (Some p) h = go (has (inside board o) p.id) where
+  shifts : (dx dy : ℤ) (board : Board) (id : ℕ) (slot : Option Object) → IfSome slot H → IfSome (option_map (λ p. if has (inside board id) p.id then shifted_by dx dy p else p) slot) H
+  shifts dx dy board id None h = tt
+  shifts dx dy board id (Some p) h = go (has (inside board id) p.id) where
     go : (b : Bool) → H (if b then shifted_by dx dy p else p)
     go true = record { image = h.image; font = h.font }
     go false = h
@@ -158,8 +158,8 @@ module _ (P : Loaded Raster → Type 0) (Q : Loaded Glyphs → Type 0) where
 
     moves : (x y : ℤ) (o : Object) → H o → Each H (moved x y board o).objects
     moves x y o h = go (is_smart o) where
-      go : (b : Bool) → Each H (if b then shifted_all (x -ℤ o.rect.x) (y -ℤ o.rect.y) board o else changed (change.Move x y) board o).objects
-      go true = each_map H _ board.objects (shifts (x -ℤ o.rect.x) (y -ℤ o.rect.y) board o) each
+      go : (b : Bool) → Each H (if b then shifted_all (x -ℤ o.rect.x) (y -ℤ o.rect.y) board o.id else changed (change.Move x y) board o).objects
+      go true = each_map H _ board.objects (shifts (x -ℤ o.rect.x) (y -ℤ o.rect.y) board o.id) each
       go false = changes (change.Move x y) tt o h
 
     homes : (parent : Option ℕ) (o : Object) → H o → Each H (homed parent board o).objects
@@ -175,7 +175,7 @@ module _ (P : Loaded Raster → Type 0) (Q : Loaded Glyphs → Type 0) where
     edits : (e : Edit) → Each H (effect board e).objects
     edits (edit.Size w h) = each
     edits (edit.Make name k) = each_end H board.objects _ each (none_made (next_id board) name k)
-    edits (edit.Delete name) = each_named H board name (deleted board) each (λ o h. each_map H _ board.objects (leaves (inside board o)) each)
+    edits (edit.Delete name) = each_named H board name (λ o. deleted board o.id o.parent) each (λ o h. each_map H _ board.objects (leaves (inside board o.id)) each)
     edits (edit.Move name x y) = each_named H board name (moved x y board) each (moves x y)
     edits (edit.Resize name w h) = changes_named name (change.Resize w h) tt
     edits (edit.Show name on) = changes_named name (change.Show on) tt

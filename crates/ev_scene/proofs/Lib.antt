@@ -10,8 +10,6 @@ pub mod Shifting
 pub mod Answering
 pub mod SameKinds
 pub mod Capturing
-pub mod Meeting
-pub mod Sighting
 pub mod Ways
 pub mod Nesting
 pub mod Members

@@ -1,5 +1,5 @@
 -- What a move answers.
-use Rattle.std.proofs.Common.{◌≡◌, ℕ, ℤ, ◌+ℤ◌, ◌-ℤ◌, Bool, true, false, ◌&&◌, List, length, pos, int_eq, Option, Some, None, Result, Ok, Err, OnOk, IfErr, if◌then◌else◌, FitsSigned, w64, to_z, of_z, refl, sym, ap, ap₂, ◌∙◌, subst, arith}
+use Rattle.std.proofs.Common.{◌≡◌, ℕ, ℤ, ◌+ℤ◌, ◌-ℤ◌, Bool, true, false, ◌&&◌, List, length, pos, int_eq, Option, Some, None, Result, if◌then◌else◌, FitsSigned, w64, to_z, of_z, refl, sym, ap, ap₂, ◌∙◌, subst, arith}
 use Rattle.std.specs.List.{cons_option, list_all}
 use Rattle.std.specs.Option.{option_map, option_map_or}
 use Rattle.std.specs.Result.{IsErrAnd}
@@ -64,37 +64,31 @@ module _ (board : Board) (name : List ℕ) (o : Object) (is : Some o ≡ named b
     all : (rest : List Object) → list_all (may_shift (x -ℤ o.rect.x) (y -ℤ o.rect.y)) (cons_option (of_id board.objects o.id) rest) ≡ false
     all rest = ap (λ slot. list_all (may_shift (x -ℤ o.rect.x) (y -ℤ o.rect.y)) (cons_option slot rest)) there ∙ ap (λ b. b && list_all (may_shift (x -ℤ o.rect.x) (y -ℤ o.rect.y)) rest) itself
 
-    go : (b : Bool) → (if b then list_all (may_shift (x -ℤ o.rect.x) (y -ℤ o.rect.y)) (objects_in board o) else is_place x && is_place y) ≡ false
+    go : (b : Bool) → (if b then list_all (may_shift (x -ℤ o.rect.x) (y -ℤ o.rect.y)) (objects_in board o.id) else is_place x && is_place y) ≡ false
     go true = all _
     go false = fails
 
   -- a smart object
-  pub group_answers : of_id board.objects o.id ≡ Some o → is_smart o ≡ true → (dx dy : ℤ) → dx ≡ x -ℤ o.rect.x → dy ≡ y -ℤ o.rect.y → (result : Result (Unit {0}) Refusal) (new : Board)
-      → OnOk result ((p : Object) → of_id board.objects o.id ≡ Some p → (list_all (may_shift dx dy) (objects_in board p) ≡ true) × (new ≡ shifted_all dx dy board p))
-      → IfErr result (λ cause. (p : Object) → of_id board.objects o.id ≡ Some p → Refuses (unless (list_all (may_shift dx dy) (objects_in board p)) refusal.Range) cause × (new ≡ board))
-      → Answers verdict board after result new
-  group_answers there smart dx dy ex ey result new = go result where
-    its_verdict : verdict ≡ unless (list_all (may_shift dx dy) (objects_in board o)) refusal.Range
-    its_verdict =
-        verdict_is ∙ ap (λ b. unless (if b then list_all (may_shift (x -ℤ o.rect.x) (y -ℤ o.rect.y)) (objects_in board o) else is_place x && is_place y) refusal.Range) smart
-        ∙ sym (ap₂ (λ dx dy. unless (list_all (may_shift dx dy) (objects_in board o)) refusal.Range) ex ey)
+  pub group_answers : is_smart o ≡ true → (dx dy : ℤ) → dx ≡ x -ℤ o.rect.x → dy ≡ y -ℤ o.rect.y → (result : Result (Unit {0}) Refusal) (new : Board)
+      → Answers (unless (list_all (may_shift dx dy) (objects_in board o.id)) refusal.Range) board (shifted_all dx dy board o.id) result new → Answers verdict board after result new
+  group_answers smart dx dy ex ey result new said =
+      subst (λ verdict. Answers verdict board after result new) (sym its_verdict) (subst (λ after. Answers (unless (list_all (may_shift dx dy) (objects_in board o.id)) refusal.Range) board after result new) (sym its_after) said)
+    where
+      its_verdict : verdict ≡ unless (list_all (may_shift dx dy) (objects_in board o.id)) refusal.Range
+      its_verdict =
+          verdict_is ∙ ap (λ b. unless (if b then list_all (may_shift (x -ℤ o.rect.x) (y -ℤ o.rect.y)) (objects_in board o.id) else is_place x && is_place y) refusal.Range) smart
+          ∙ sym (ap₂ (λ dx dy. unless (list_all (may_shift dx dy) (objects_in board o.id)) refusal.Range) ex ey)
 
-    its_after : after ≡ shifted_all dx dy board o
-    its_after =
-        after_is ∙ ap (λ b. if b then shifted_all (x -ℤ o.rect.x) (y -ℤ o.rect.y) board o else changed (change.Move x y) board o) smart
-        ∙ sym (ap₂ (λ dx dy. shifted_all dx dy board o) ex ey)
-
-    go : (result : Result (Unit {0}) Refusal) → OnOk result ((p : Object) → of_id board.objects o.id ≡ Some p → (list_all (may_shift dx dy) (objects_in board p) ≡ true) × (new ≡ shifted_all dx dy board p))
-        → IfErr result (λ cause. (p : Object) → of_id board.objects o.id ≡ Some p → Refuses (unless (list_all (may_shift dx dy) (objects_in board p)) refusal.Range) cause × (new ≡ board))
-        → Answers verdict board after result new
-    go (Ok done) ok err = let said = ok o there in (its_verdict ∙ ap (λ b. unless b refusal.Range) said.0, said.1 ∙ sym its_after)
-    go (Err cause) ok err = let said = err o there in (subst (λ verdict. Refuses verdict cause) (sym its_verdict) said.0, said.1)
+      its_after : after ≡ shifted_all dx dy board o.id
+      its_after =
+          after_is ∙ ap (λ b. if b then shifted_all (x -ℤ o.rect.x) (y -ℤ o.rect.y) board o.id else changed (change.Move x y) board o) smart
+          ∙ sym (ap₂ (λ dx dy. shifted_all dx dy board o.id) ex ey)
 
   -- the states that a smart object makes, none where it stays, are few enough
-  pub group_made : (dx dy : ℤ) → dx ≡ x -ℤ o.rect.x → dy ≡ y -ℤ o.rect.y → (made made' : ℕ) → MakesAtMost (length (inside board o)) made made' → (dx ≡ pos 0 → dy ≡ pos 0 → made' ≡ made)
+  pub group_made : (dx dy : ℤ) → dx ≡ x -ℤ o.rect.x → dy ≡ y -ℤ o.rect.y → (made made' : ℕ) → MakesAtMost (length (inside board o.id)) made made' → (dx ≡ pos 0 → dy ≡ pos 0 → made' ≡ made)
       → MakesAtMost (option_map_or (move_writes x y board) (named board.objects name) 1) made made'
   group_made dx dy ex ey made made' few still = subst (λ found. MakesAtMost (option_map_or (move_writes x y board) found 1) made made') is (go (is_at x y o) refl) where
-    go : (at : Bool) → is_at x y o ≡ at → MakesAtMost (if at then 1 else length (inside board o)) made made'
+    go : (at : Bool) → is_at x y o ≡ at → MakesAtMost (if at then 1 else length (inside board o.id)) made made'
     go true e =
         let same = and_parts (int_eq x o.rect.x) (int_eq y o.rect.y) e in
         let none : made' ≡ made = still (ex ∙ no_distance x o.rect.x same.0) (ey ∙ no_distance y o.rect.y same.1) in
@@ -104,7 +98,7 @@ module _ (board : Board) (name : List ℕ) (o : Object) (is : Some o ≡ named b
   -- the state that another object makes is one
   pub one_made : (made made' : ℕ) → MakesAtMost 1 made made' → MakesAtMost (option_map_or (move_writes x y board) (named board.objects name) 1) made made'
   one_made made made' few = subst (λ found. MakesAtMost (option_map_or (move_writes x y board) found 1) made made') is (go (is_at x y o)) where
-    go : (at : Bool) → MakesAtMost (if at then 1 else length (inside board o)) made made'
+    go : (at : Bool) → MakesAtMost (if at then 1 else length (inside board o.id)) made made'
     go true = few
     go false = record { grows = few.grows; bound = omega (arith, few.bound) }
 
@@ -112,7 +106,7 @@ module _ (board : Board) (name : List ℕ) (o : Object) (is : Some o ≡ named b
   module _ (plain : is_smart o ≡ false) (places : (is_place x && is_place y) ≡ true) where
     one_verdict : verdict ≡ None
     one_verdict =
-        verdict_is ∙ ap (λ b. unless (if b then list_all (may_shift (x -ℤ o.rect.x) (y -ℤ o.rect.y)) (objects_in board o) else is_place x && is_place y) refusal.Range) plain
+        verdict_is ∙ ap (λ b. unless (if b then list_all (may_shift (x -ℤ o.rect.x) (y -ℤ o.rect.y)) (objects_in board o.id) else is_place x && is_place y) refusal.Range) plain
         ∙ ap (λ b. unless b refusal.Range) places
 
     pub one_answers : (c : Change) (objects : List (Option Object)) → c ≡ change.Move x y → of_id board.objects o.id ≡ Some o → objects ≡ put board.objects o.id (option_map (apply c) (of_id board.objects o.id))
@@ -120,7 +114,7 @@ module _ (board : Board) (name : List ℕ) (o : Object) (is : Some o ≡ named b
     one_answers c objects e there f = (
       one_verdict,
       changed_is board o c objects there f ∙ ap (λ c. changed c board o) e
-          ∙ sym (after_is ∙ ap (λ b. if b then shifted_all (x -ℤ o.rect.x) (y -ℤ o.rect.y) board o else changed (change.Move x y) board o) plain),
+          ∙ sym (after_is ∙ ap (λ b. if b then shifted_all (x -ℤ o.rect.x) (y -ℤ o.rect.y) board o.id else changed (change.Move x y) board o) plain),
     )
 
     pub one_refused : (result : Result (Unit {0}) Refusal) (new : Board) → IsErrAnd result (λ cause. cause ≡ refusal.NoMemory) → new ≡ board → Answers verdict board after result new

@@ -1,5 +1,5 @@
 -- Whether all that stands inside an object may move.
-use Rattle.std.proofs.Common.{◌≡◌, ℕ, ℤ, pos, ◌+◌, ◌-◌, ◌<◌, ◌≤◌, Bool, true, false, ◌&&◌, List, [], ◌∷◌, length, map, filter_map, Option, Some, None, is_some, FitsSigned, w64, to_z, of_z, if◌then◌else◌, refl, sym, ap, ap₂, ◌∙◌, subst, inl, inr, arith}
+use Rattle.std.proofs.Common.{◌≡◌, ℕ, ℤ, ◌+◌, ◌-◌, ◌<◌, ◌≤◌, Bool, true, false, ◌&&◌, List, [], ◌∷◌, length, map, filter_map, Option, Some, None, is_some, FitsSigned, w64, to_z, of_z, if◌then◌else◌, refl, sym, ap, ap₂, ◌∙◌, subst, inl, inr, arith}
 use Rattle.std.specs.FinMap.{get}
 use Rattle.std.specs.List.{list_all}
 use Rattle.std.specs.Option.{option_map, option_to_list}
@@ -8,9 +8,7 @@ use Rattle.std.proofs.lemmas.Bool.{and_right}
 use Rattle.std.proofs.lemmas.Bool.Decides.{eqb_tells}
 use Rattle.std.proofs.lemmas.Int.{to_z-of_z}
 use Rattle.std.proofs.lemmas.List.{length-map}
-use Rattle.std.proofs.lemmas.Option.{same_Some}
 use Rattle.ev_state.specs.Held.{Held}
-use Rattle.ev_model.specs.Up.{is_smart}
 use Rattle.ev_model.specs.declared.object.Object.{Object}
 use Rattle.ev_model.specs.declared.refusal.Refusal.TheVariants as refusal
 use Rattle.ev_links.specs.Ties.{Ties, Has, has, is_inside, IsSound}
@@ -20,8 +18,15 @@ use Rattle.ev_scene.specs.Board.{Board, inside, values_of}
 use Rattle.ev_scene.specs.Edits.{Refuses, unless, may_shift, shifted_by, shifted_all, objects_in}
 use Rattle.ev_scene.specs.Whole.{IsWhole}
 use Rattle.ev_scene.proofs.Places.{id_high}
-use Rattle.ev_scene.proofs.Shifting.{cons_passes, shifted_values, not_shifted}
+use Rattle.ev_scene.proofs.Shifting.{cons_passes, shifted_values}
 use Rattle.ev_scene.proofs.Trees.{inside_is}
+
+-- where some place leaves its range, that is told
+pub out_of_range : (test : Bool) → test ≡ false → Refuses (unless test refusal.Range) refusal.Range
+out_of_range test fails = subst (λ b. Refuses (unless b refusal.Range) refusal.Range) (sym fails) refl
+
+pub in_range : (test : Bool) → test ≡ true → unless test refusal.Range ≡ None
+in_range test holds = ap (λ b. unless b refusal.Range) holds
 
 -- numbers that went through a call
 module _ (dx dy : ℤ) (fx : FitsSigned w64 dx) (fy : FitsSigned w64 dy) where
@@ -68,59 +73,36 @@ module _ {w h : ℕ} {objects : List (Option Object)} {groups : List (List (ℕ 
   abbrev board : Board
   board = record { w = w; h = h; objects = objects; groups = groups }
 
-  module _ (dx dy : ℤ) (id : ℕ) (o : Object) (there : of_id objects id ≡ Some o) where
-    stands_there : of_id objects o.id ≡ Some o
-    stands_there = ap (of_id objects) (whole.own id o there) ∙ there
+  module _ (sound : IsSound (get ties)) (dx dy : ℤ) (id : ℕ) (there : is_some (of_id objects id) ≡ true) where
+    one_may_not : (x : ℕ) → is_inside ties x id ≡ true → list_all (may_shift dx dy) (option_to_list (of_id objects x)) ≡ false → list_all (may_shift dx dy) (objects_in board id) ≡ false
+    one_may_not x within fails = fails_in (may_shift dx dy) (of_id objects) (inside board id) x (inside_is whole sound id there x (is_there (of_id objects x) fails) ∙ within) fails where
+      is_there : (slot : Option Object) → list_all (may_shift dx dy) (option_to_list slot) ≡ false → is_some slot ≡ true
+      is_there None e = absurd (true≢false e)
+      is_there (Some p) e = refl
 
-    module _ (sound : IsSound (get ties)) where
-      one_may_not : (x : ℕ) → is_inside ties x id ≡ true → list_all (may_shift dx dy) (option_to_list (of_id objects x)) ≡ false → list_all (may_shift dx dy) (objects_in board o) ≡ false
-      one_may_not x within fails = fails_in (may_shift dx dy) (of_id objects) (inside board o) x
-          (inside_is whole sound o stands_there x (is_there (of_id objects x) fails) ∙ ap (is_inside ties x) (whole.own id o there) ∙ within) fails
-        where
-          is_there : (slot : Option Object) → list_all (may_shift dx dy) (option_to_list slot) ≡ false → is_some slot ≡ true
-          is_there None e = absurd (true≢false e)
-          is_there (Some p) e = refl
+    pub refused_range : (x : ℕ) → is_inside ties x id ≡ true → list_all (may_shift dx dy) (option_to_list (of_id objects x)) ≡ false → Refuses (unless (list_all (may_shift dx dy) (objects_in board id)) refusal.Range) refusal.Range
+    refused_range x within fails = out_of_range _ (one_may_not x within fails)
 
-      pub refused_range : (x : ℕ) → is_inside ties x id ≡ true → list_all (may_shift dx dy) (option_to_list (of_id objects x)) ≡ false → Refuses (unless (list_all (may_shift dx dy) (objects_in board o)) refusal.Range) refusal.Range
-      refused_range x within fails = subst (λ b. Refuses (unless b refusal.Range) refusal.Range) (sym (one_may_not x within fails)) refl
+    all_may : (n : ℕ) → length objects + 1 ≤ n → MayBelow dx dy objects ties id n → list_all (may_shift dx dy) (objects_in board id) ≡ true
+    all_may n e may = all_pass (may_shift dx dy) (of_id objects) (inside board id) one where
+      one : (x : ℕ) → Has x (inside board id) → list_all (may_shift dx dy) (option_to_list (of_id objects x)) ≡ true
+      one x has_it = go (of_id objects x) refl where
+        go : (slot : Option Object) → of_id objects x ≡ slot → list_all (may_shift dx dy) (option_to_list slot) ≡ true
+        go None f = refl
+        go (Some p) f =
+            let high : x - 1 < length objects = id_high objects x p f in
+            let low : x < n = omega (arith, high, e) in
+            let within : is_inside ties x id ≡ true = sym (inside_is whole sound id there x (ap is_some f)) ∙ has-Has (inside board id) x has_it in
+            ap (λ slot. list_all (may_shift dx dy) (option_to_list slot)) (sym f) ∙ may x low within
 
-      all_may : (n : ℕ) → length objects + 1 ≤ n → MayBelow dx dy objects ties id n → list_all (may_shift dx dy) (objects_in board o) ≡ true
-      all_may n e may = all_pass (may_shift dx dy) (of_id objects) (inside board o) one where
-        one : (x : ℕ) → Has x (inside board o) → list_all (may_shift dx dy) (option_to_list (of_id objects x)) ≡ true
-        one x has_it = go (of_id objects x) refl where
-          go : (slot : Option Object) → of_id objects x ≡ slot → list_all (may_shift dx dy) (option_to_list slot) ≡ true
-          go None f = refl
-          go (Some p) f =
-              let high : x - 1 < length objects = id_high objects x p f in
-              let low : x < n = omega (arith, high, e) in
-              let within : is_inside ties x id ≡ true = ap (is_inside ties x) (sym (whole.own id o there)) ∙ sym (inside_is whole sound o stands_there x (ap is_some f)) ∙ has-Has (inside board o) x has_it in
-              ap (λ slot. list_all (may_shift dx dy) (option_to_list slot)) (sym f) ∙ may x low within
+    pub refused_memory : (n : ℕ) → length objects + 1 ≤ n → MayBelow dx dy objects ties id n → Refuses (unless (list_all (may_shift dx dy) (objects_in board id)) refusal.Range) refusal.NoMemory
+    refused_memory n e may = subst (λ b. Refuses (unless b refusal.Range) refusal.NoMemory) (sym (all_may n e may)) refl
 
-      pub refused_memory : (n : ℕ) → length objects + 1 ≤ n → MayBelow dx dy objects ties id n → Refuses (unless (list_all (may_shift dx dy) (objects_in board o)) refusal.Range) refusal.NoMemory
-      refused_memory n e may = subst (λ b. Refuses (unless b refusal.Range) refusal.NoMemory) (sym (all_may n e may)) refl
-
-  -- the ids of what stands inside a smart object
-  module _ (dx dy : ℤ) (id : ℕ) (ids : List ℕ) (found : (o : Object) → o.id ≡ id → is_smart o ≡ true → ids ≡ inside board o) (known : (o : Object) × (of_id objects id ≡ Some o) × (is_smart o ≡ true)) where
-    ids_are : (o : Object) → of_id objects id ≡ Some o → ids ≡ inside board o
-    ids_are o there = found o (whole.own id o there) (subst (λ o. is_smart o ≡ true) (same_Some known.0 o (sym known.1 ∙ there)) known.2)
-
-    same_test : (o : Object) → of_id objects id ≡ Some o → list_all (may_shift dx dy) (objects_in board o) ≡ list_all (may_shift dx dy) (filter_map (of_id objects) ids)
-    same_test o there = ap (λ ids. list_all (may_shift dx dy) (filter_map (of_id objects) ids)) (sym (ids_are o there))
-
-    pub group_stays : list_all (may_shift dx dy) (filter_map (of_id objects) ids) ≡ false → (o : Object) → of_id objects id ≡ Some o → Refuses (unless (list_all (may_shift dx dy) (objects_in board o)) refusal.Range) refusal.Range
-    group_stays e o there = subst (λ b. Refuses (unless b refusal.Range) refusal.Range) (sym (same_test o there ∙ e)) refl
-
-    pub group_moves : (objects' : List (Option Object)) → list_all (may_shift dx dy) (filter_map (of_id objects) ids) ≡ true → objects' ≡ spread (map (shifted_by dx dy) (filter_map (of_id objects) ids)) objects
-        → (o : Object) → of_id objects id ≡ Some o → (list_all (may_shift dx dy) (objects_in board o) ≡ true) × (record board { objects = objects' } ≡ shifted_all dx dy board o)
-    group_moves objects' e f o there = (
-      same_test o there ∙ e,
-      ap (λ objects. record board { objects = objects }) (f ∙ shifted_values whole dx dy ids
-          ∙ ap (λ ids. map (λ slot. option_map (λ p. if has ids p.id then shifted_by dx dy p else p) slot) objects) (ids_are o there)),
-    )
-
-    pub group_rests : dx ≡ pos 0 → dy ≡ pos 0 → list_all (may_shift dx dy) (filter_map (of_id objects) ids) ≡ true → (o : Object) → of_id objects id ≡ Some o
-        → (list_all (may_shift dx dy) (objects_in board o) ≡ true) × (board ≡ shifted_all dx dy board o)
-    group_rests ex ey e o there = (same_test o there ∙ e, sym (ap₂ (λ dx dy. shifted_all dx dy board o) ex ey ∙ not_shifted board o))
+  -- an object that moves with all that stands inside it
+  pub group_moved : (dx dy : ℤ) (id : ℕ) (ids : List ℕ) → ids ≡ inside board id → (objects' : List (Option Object)) → objects' ≡ spread (map (shifted_by dx dy) (filter_map (of_id objects) ids)) objects
+      → record board { objects = objects' } ≡ shifted_all dx dy board id
+  group_moved dx dy id ids all objects' e = ap (λ objects. record board { objects = objects }) (e ∙ shifted_values whole dx dy ids
+      ∙ ap (λ ids. map (λ slot. option_map (λ p. if has ids p.id then shifted_by dx dy p else p) slot) objects) all)
 
 -- new states in place of the old ones
 pub spread_is : (states states' : List (Option (Held Object))) (made all : List Object) (objects : List (Option Object)) → states' ≡ states → made ≡ all → objects ≡ spread made (values_of states') → objects ≡ spread all (values_of states)

@@ -14,13 +14,12 @@ use Rattle.ev_model.specs.Up.{is_clipped_by}
 use Rattle.ev_model.specs.declared.object.Object.{Object}
 use Rattle.ev_stack.specs.LayerOrder.{layer_in, ids_above, ids_from}
 use Rattle.ev_groups.specs.Groups.{group, siblings}
-use Rattle.ev_links.specs.Ties.{Ties, clipper_at, has, IsSound, Counts}
+use Rattle.ev_links.specs.Ties.{Ties, clipper_at, parent_at, has, IsSound, Counts}
 use Rattle.ev_links.proofs.Counts.{Counts-none}
 use Rattle.ev_links.proofs.Ways.{has-Has}
 use Rattle.ev_scene.specs.Ids.{of_id, spread, value_of}
-use Rattle.ev_scene.specs.Board.{Board, MakesAtMost, values_of}
+use Rattle.ev_scene.specs.Board.{MakesAtMost, values_of}
 use Rattle.ev_scene.specs.Change.{apply}
-use Rattle.ev_scene.specs.Edits.{clipped_by}
 use Rattle.ev_scene.specs.Roll.{IsStateOf}
 use Rattle.ev_scene.specs.ObjectTies.{tie_of}
 use Rattle.ev_scene.specs.Whole.{IsWhole}
@@ -140,31 +139,31 @@ none_clipped objects ties tied id n counts none (x ∷ ids) = go (of_id objects 
         pick false f = later
 
 module _ {w h : ℕ} {objects : List (Option Object)} {groups : List (List (ℕ × ℤ))} {ties : Ties} (whole : IsWhole (record { w = w; h = h; objects = objects; groups = groups }) ties) where
-  module _ (sound : IsSound (get ties)) (o : Object) (there : of_id objects o.id ≡ Some o) where
-    abbrev board : Board
-    board = record { w = w; h = h; objects = objects; groups = groups }
+  module _ (sound : IsSound (get ties)) (id : ℕ) (parent : Option ℕ) (stands_in_it : parent_at (get ties) id ≡ parent) where
+    abbrev beside : List Object
+    beside = filter_map (of_id objects) (siblings groups parent)
 
-    stand : All (λ p. of_id objects p.id ≡ Some p) (filter_map (of_id objects) (siblings groups o.parent))
-    stand = listed_stand objects whole.own (siblings groups o.parent)
+    stand : All (λ p. of_id objects p.id ≡ Some p) beside
+    stand = listed_stand objects whole.own (siblings groups parent)
 
     -- what has a clipper is its sibling
-    among : (q : ℕ) (p : Object) → of_id objects q ≡ Some p → (b : Bool) → is_clipped_by o.id p ≡ b → (has (siblings groups o.parent) q && b) ≡ b
+    among : (q : ℕ) (p : Object) → of_id objects q ≡ Some p → (b : Bool) → is_clipped_by id p ≡ b → (has (siblings groups parent) q && b) ≡ b
     among q p at true f =
-        let same : o.parent ≡ p.parent = sym (parent_is whole o.id o there) ∙ sound.siblings q o.id (clipper_is whole q p at ∙ clipper_of o.id p f) ∙ parent_is whole q p at in
-        ap (λ b. b && true) (has-Has _ q (has_layer (group groups o.parent) q p.layer (ap (λ parent. layer_in (group groups parent) q) same ∙ stands_in whole q p at)))
-    among q p at false f = and_right (has (siblings groups o.parent) q) false refl
+        let same : parent ≡ p.parent = sym stands_in_it ∙ sound.siblings q id (clipper_is whole q p at ∙ clipper_of id p f) ∙ parent_is whole q p at in
+        ap (λ b. b && true) (has-Has _ q (has_layer (group groups parent) q p.layer (ap (λ parent. layer_in (group groups parent) q) same ∙ stands_in whole q p at)))
+    among q p at false f = and_right (has (siblings groups parent) q) false refl
 
     -- new states of all that it clips, put at their ids
-    pub spread_released : (q : ℕ) → of_id (spread (map (apply (change.Clip None)) (clipped_by board o)) objects) q ≡ option_map (unclipped o.id) (of_id objects q)
+    pub spread_released : (q : ℕ) → of_id (spread (map (apply (change.Clip None)) (filter (is_clipped_by id) beside)) objects) q ≡ option_map (unclipped id) (of_id objects q)
     spread_released q =
-        spread_at (apply (change.Clip None)) (λ p. refl) (clipped_by board o) objects (All-filter (is_clipped_by o.id) (λ p. of_id objects p.id ≡ Some p) (filter_map (of_id objects) (siblings groups o.parent)) stand) q
+        spread_at (apply (change.Clip None)) (λ p. refl) (filter (is_clipped_by id) beside) objects (All-filter (is_clipped_by id) (λ p. of_id objects p.id ≡ Some p) beside stand) q
         ∙ go (of_id objects q) refl
       where
-        go : (f : Option Object) → of_id objects q ≡ f → option_map (λ p. if has (map (λ p. p.id) (clipped_by board o)) q then apply (change.Clip None) p else p) f ≡ option_map (unclipped o.id) f
+        go : (f : Option Object) → of_id objects q ≡ f → option_map (λ p. if has (map (λ p. p.id) (filter (is_clipped_by id) beside)) q then apply (change.Clip None) p else p) f ≡ option_map (unclipped id) f
         go None e = refl
         go (Some p) e = ap (λ b. Some (if b then apply (change.Clip None) p else p))
-            (has_chosen objects (is_clipped_by o.id) q p e (filter_map (of_id objects) (siblings groups o.parent)) stand
-            ∙ ap (λ b. b && is_clipped_by o.id p) (has_listed objects whole.own (siblings groups o.parent) q p e) ∙ among q p e (is_clipped_by o.id p) refl)
+            (has_chosen objects (is_clipped_by id) q p e beside stand
+            ∙ ap (λ b. b && is_clipped_by id p) (has_listed objects whole.own (siblings groups parent) q p e) ∙ among q p e (is_clipped_by id p) refl)
 
 -- each of the new states is of an object that is there
 pub released_states : {w h : ℕ} (states : List (Option (Held Object))) {groups : List (List (ℕ × ℤ))} {ties : Ties} → IsWhole (record { w = w; h = h; objects = values_of states; groups = groups }) ties → (id : ℕ) (ids : List ℕ) (items : List (Held Object))

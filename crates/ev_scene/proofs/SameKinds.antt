@@ -72,20 +72,20 @@ module _ (scene : Board) (own : (name : List ℕ) (o : Object) → named scene.o
   keeps_one : (c : Change) (name : List ℕ) → KeepsKinds scene (with_named scene name (changed c scene))
   keeps_one c name = keeps_named name (changed c scene) (keeps_changed c)
 
-  keeps_shifted : (dx dy : ℤ) (o : Object) → KeepsKinds scene (shifted_all dx dy scene o)
-  keeps_shifted dx dy o id kind is = ap kind_in (of_id_map (λ p. if has (inside scene o) p.id then shifted_by dx dy p else p) scene.objects id) ∙ go (of_id scene.objects id) ∙ is where
+  keeps_shifted : (dx dy : ℤ) (top : ℕ) → KeepsKinds scene (shifted_all dx dy scene top)
+  keeps_shifted dx dy top id kind is = ap kind_in (of_id_map (λ p. if has (inside scene top) p.id then shifted_by dx dy p else p) scene.objects id) ∙ go (of_id scene.objects id) ∙ is where
     one : (b : Bool) (p : Object) → kind_of (if b then shifted_by dx dy p else p).content ≡ kind_of p.content
     one true p = refl
     one false p = refl
 
-    go : (x : Option Object) → kind_in (option_map (λ p. if has (inside scene o) p.id then shifted_by dx dy p else p) x) ≡ kind_in x
+    go : (x : Option Object) → kind_in (option_map (λ p. if has (inside scene top) p.id then shifted_by dx dy p else p) x) ≡ kind_in x
     go None = refl
-    go (Some p) = ap Some (one (has (inside scene o) p.id) p)
+    go (Some p) = ap Some (one (has (inside scene top) p.id) p)
 
   keeps_moved : (x y : ℤ) (o : Object) → of_id scene.objects o.id ≡ Some o → KeepsKinds scene (moved x y scene o)
   keeps_moved x y o at = go (is_smart o) where
-    go : (b : Bool) → KeepsKinds scene (if b then shifted_all (x -ℤ o.rect.x) (y -ℤ o.rect.y) scene o else changed (change.Move x y) scene o)
-    go true = keeps_shifted (x -ℤ o.rect.x) (y -ℤ o.rect.y) o
+    go : (b : Bool) → KeepsKinds scene (if b then shifted_all (x -ℤ o.rect.x) (y -ℤ o.rect.y) scene o.id else changed (change.Move x y) scene o)
+    go true = keeps_shifted (x -ℤ o.rect.x) (y -ℤ o.rect.y) o.id
     go false = keeps_changed (change.Move x y) o at
 
   keeps_homed : (parent : Option ℕ) (o : Object) → of_id scene.objects o.id ≡ Some o → KeepsKinds scene (homed parent scene o)

@@ -106,8 +106,8 @@ all_states states f id name (s ∷ items) (o ∷ objects) e there k d low =
       go (suc k) d low rest = rest k d (omega (arith, low))
 
 -- where all stays in its place, the scene stays
-pub not_shifted : (board : Board) (o : Object) → shifted_all (pos 0) (pos 0) board o ≡ board
-not_shifted board o = ap (λ objects. record board { objects = objects }) (all board.objects) where
+pub not_shifted : (board : Board) (id : ℕ) → shifted_all (pos 0) (pos 0) board id ≡ board
+not_shifted board id = ap (λ objects. record board { objects = objects }) (all board.objects) where
   by_nothing : (at : ℤ) → at +ℤ pos 0 ≡ at
   by_nothing at = omega (arith, ints)
 
@@ -118,11 +118,11 @@ not_shifted board o = ap (λ objects. record board { objects = objects }) (all b
   choice true p = one p
   choice false p = refl
 
-  slot : (s : Option Object) → option_map (λ p. if has (inside board o) p.id then shifted_by (pos 0) (pos 0) p else p) s ≡ s
+  slot : (s : Option Object) → option_map (λ p. if has (inside board id) p.id then shifted_by (pos 0) (pos 0) p else p) s ≡ s
   slot None = refl
-  slot (Some p) = ap Some (choice (has (inside board o) p.id) p)
+  slot (Some p) = ap Some (choice (has (inside board id) p.id) p)
 
-  all : (slots : List (Option Object)) → map (λ s. option_map (λ p. if has (inside board o) p.id then shifted_by (pos 0) (pos 0) p else p) s) slots ≡ slots
+  all : (slots : List (Option Object)) → map (λ s. option_map (λ p. if has (inside board id) p.id then shifted_by (pos 0) (pos 0) p else p) s) slots ≡ slots
   all [] = refl
   all (s ∷ slots) = ap₂ ◌∷◌ (slot s) (all slots)
 

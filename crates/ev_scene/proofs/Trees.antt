@@ -3,7 +3,7 @@ use Rattle.std.proofs.Common.{◌≡◌, ◌≢◌, ℕ, zero, suc, ℤ, ◌<◌
 use Rattle.std.proofs.lemmas.Bool.Decides.{nat_tests, eqb_tells}
 use Rattle.std.proofs.lemmas.Option.{none-some, same_Some}
 use Rattle.std.proofs.Math.Bool.{true≢false}
-use Rattle.std.specs.Prelude.{IsTrue, filter_map}
+use Rattle.std.specs.Prelude.{IsTrue, filter_map, flat_map}
 use Rattle.std.specs.FinMap.{get, len}
 use Rattle.std.specs.List.{cons_option, AllPairs}
 use Rattle.std.specs.Option.{option_map, option_and_then, option_eq}
@@ -379,83 +379,81 @@ module _ {w h : ℕ} {objects : List (Option Object)} {groups : List (List (ℕ 
     places_are : (x : ℕ) → is_there x ≡ true → places_of ties x ≡ x ∷ (along x).0
     places_are x there = walk_whole ties over x (along x).0 (suc (len ties)) (omega arith) (there_tied x there) (parent_there (get ties) sound) (along x).1
 
-    -- an object
-    module _ (o : Object) (stands_there : of_id objects o.id ≡ Some o) where
-      o_there : is_there o.id ≡ true
-      o_there = ap is_some stands_there
-
-      -- what has members is smart
-      smart_parent : (y : ℕ) → over y ≡ Some o.id → is_smart o ≡ true
-      smart_parent y e = smart_kind o.content (same_Some _ _ (sym (kind_is o.id o stands_there) ∙ sound.parents y o.id e))
-
+    -- an object that is there
+    module _ (id : ℕ) (id_there : is_there id ≡ true) where
       -- what stands inside it are the objects whose ways meet it
-      met : (x : ℕ) → is_there x ≡ true → (ids : List ℕ) → IsWay over x ids → Has x (inside board o) → Has o.id (x ∷ ids)
-      met x there ids p h = elim h [ inl here ↦ inl (sym here) | inr later ↦ inr (go (is_smart o) later) ] where
-        go : (b : Bool) → Has x (if b then ids_in board (Some o.id) else []) → Has o.id ids
-        go true h = nest.on_the_way (siblings groups) over is_there known stands members (length (live objects)) x o.id ids o_there p h
-        go false h = absurd h
+      met : (x : ℕ) → is_there x ≡ true → (ids : List ℕ) → IsWay over x ids → Has x (inside board id) → Has id (x ∷ ids)
+      met x there ids p h = elim h [ inl here ↦ inl (sym here) | inr later ↦ inr (nest.on_the_way (siblings groups) over is_there known stands members (length (live objects)) x id ids id_there p later) ]
 
-      meets : (x : ℕ) → is_there x ≡ true → (ids : List ℕ) → IsWay over x ids → Has o.id (x ∷ ids) → Has x (inside board o)
+      meets : (x : ℕ) → is_there x ≡ true → (ids : List ℕ) → IsWay over x ids → Has id (x ∷ ids) → Has x (inside board id)
       meets x there ids p h =
           elim h [
             | inl here ↦ inl (sym here)
-            | inr later ↦ inr (go (is_smart o) (let y = nest.led over x o.id ids p later in smart_parent y.0 y.1) later)
+            | inr later ↦ inr (let few = fits x ids there p in nest.reached_in (siblings groups) over is_there known stands members (length (live objects)) x id ids p there later (omega (arith, few)))
           ]
-        where
-          go : (b : Bool) → b ≡ true → Has o.id ids → Has x (if b then ids_in board (Some o.id) else [])
-          go true t later = let few = fits x ids there p in nest.reached_in (siblings groups) over is_there known stands members (length (live objects)) x o.id ids p there later (omega (arith, few))
-          go false t later = absurd (true≢false (sym t))
 
-      pub inside_is : (x : ℕ) → is_there x ≡ true → has (inside board o) x ≡ is_inside ties x o.id
+      pub inside_is : (x : ℕ) → is_there x ≡ true → has (inside board id) x ≡ is_inside ties x id
       inside_is x there =
-          nest.has_same (inside board o) (x ∷ (along x).0) x o.id (met x there (along x).0 (along x).1) (meets x there (along x).0 (along x).1)
-          ∙ ap (λ ids. has ids o.id) (sym (places_are x there))
+          nest.has_same (inside board id) (x ∷ (along x).0) x id (met x there (along x).0 (along x).1) (meets x there (along x).0 (along x).1)
+          ∙ ap (λ ids. has ids id) (sym (places_are x there))
 
       -- all inside is there
-      pub inside_there : (x : ℕ) → Has x (inside board o) → is_there x ≡ true
-      inside_there x h = elim h [ inl here ↦ ap is_there (sym here) ∙ o_there | inr later ↦ go (is_smart o) later ] where
-        go : (b : Bool) → Has x (if b then ids_in board (Some o.id) else []) → is_there x ≡ true
-        go true h = members_there o.id x o_there h
-        go false h = absurd h
+      pub inside_there : (x : ℕ) → Has x (inside board id) → is_there x ≡ true
+      inside_there x h = elim h [ inl here ↦ ap is_there (sym here) ∙ id_there | inr later ↦ members_there id x id_there later ]
 
       -- what stands in something inside stands inside
-      pub inside_closed : (x q : ℕ) (p : Object) → of_id objects x ≡ Some p → p.parent ≡ Some q → has (inside board o) q ≡ true → has (inside board o) x ≡ true
+      pub inside_closed : (x q : ℕ) (p : Object) → of_id objects x ≡ Some p → p.parent ≡ Some q → has (inside board id) q ≡ true → has (inside board id) x ≡ true
       inside_closed x q p there e gone =
           let led : over x ≡ Some q = parent_is x p there ∙ e in
-          let onward = met q (known x q led) (along q).0 (along q).1 (nest.Has-has (inside board o) q gone) in
-          has-Has (inside board o) x (meets x (ap is_some there) (q ∷ (along q).0) (led, (along q).1) (inr onward))
+          let onward = met q (known x q led) (along q).0 (along q).1 (nest.Has-has (inside board id) q gone) in
+          has-Has (inside board id) x (meets x (ap is_some there) (q ∷ (along q).0) (led, (along q).1) (inr onward))
 
       -- what stands inside and is not the object itself stands in something inside
-      pub inside_above : (x : ℕ) (p : Object) → of_id objects x ≡ Some p → has (inside board o) x ≡ true → x ≢ o.id → (q : ℕ) × ((p.parent ≡ Some q) × (has (inside board o) q ≡ true))
-      inside_above x p there gone other = go (along x).0 (along x).1 (met x (ap is_some there) (along x).0 (along x).1 (nest.Has-has (inside board o) x gone)) where
-        go : (ids : List ℕ) → IsWay over x ids → Has o.id (x ∷ ids) → (q : ℕ) × ((p.parent ≡ Some q) × (has (inside board o) q ≡ true))
+      pub inside_above : (x : ℕ) (p : Object) → of_id objects x ≡ Some p → has (inside board id) x ≡ true → x ≢ id → (q : ℕ) × ((p.parent ≡ Some q) × (has (inside board id) q ≡ true))
+      inside_above x p there gone other = go (along x).0 (along x).1 (met x (ap is_some there) (along x).0 (along x).1 (nest.Has-has (inside board id) x gone)) where
+        go : (ids : List ℕ) → IsWay over x ids → Has id (x ∷ ids) → (q : ℕ) × ((p.parent ≡ Some q) × (has (inside board id) q ≡ true))
         go [] r h = elim h [ inl here ↦ absurd (other here) | inr later ↦ absurd later ]
         go (q ∷ ids) r h =
             elim h [
               | inl here ↦ absurd (other here)
-              | inr later ↦ (q, (sym (parent_is x p there) ∙ r.0, has-Has (inside board o) q (meets q (known x q r.0) ids r.1 later)))
+              | inr later ↦ (q, (sym (parent_is x p there) ∙ r.0, has-Has (inside board id) q (meets q (known x q r.0) ids r.1 later)))
             ]
 
       -- what the object stands in is not inside
-      pub inside_outside : (q : ℕ) → o.parent ≡ Some q → has (inside board o) q ≡ false
-      inside_outside q e = nest.has_not (inside board o) q (λ h.
-          let led : over o.id ≡ Some q = parent_is o.id o stands_there ∙ e in
-          no_return over o.id (q ∷ (along q).0) (led, (along q).1) (met q (known o.id q led) (along q).0 (along q).1 h))
+      pub inside_outside : (q : ℕ) → over id ≡ Some q → has (inside board id) q ≡ false
+      inside_outside q led = nest.has_not (inside board id) q (λ h. no_return over id (q ∷ (along q).0) (led, (along q).1) (met q (known id q led) (along q).0 (along q).1 h))
 
-      -- what has a clipper inside stands inside, where the object is smart: a clipper is a rectangle and a sibling
-      pub inside_clipped : is_smart o ≡ true → (x c : ℕ) (p : Object) → of_id objects x ≡ Some p → p.clipper ≡ Some c → has (inside board o) c ≡ true → has (inside board o) x ≡ true
-      inside_clipped smart x c p there e gone =
-          has-Has (inside board o) x (go (along c).0 (along c).1 (met c (there_too c (clipper_there (get ties) sound x c led)) (along c).0 (along c).1 (nest.Has-has (inside board o) c gone)))
-        where
-          led : clipper_at (get ties) x ≡ Some c
-          led = clipper_is x p there ∙ e
+      module _ (o : Object) (at : of_id objects id ≡ Some o) where
+        -- only smart objects have members
+        pub alone : is_smart o ≡ false → inside board id ≡ id ∷ []
+        alone plain = ap (λ rest. id ∷ rest) (go (length (live objects))) where
+          memberless : (x : ℕ) → ¬ Has x (siblings groups (Some id))
+          memberless x h =
+              let led : over x ≡ Some id = (members x (Some id) id_there h).0 in
+              true≢false (sym (smart_kind o.content (same_Some _ _ (sym (kind_is id o at) ∙ sound.parents x id led))) ∙ plain)
 
-          sibling : over c ≡ over x
-          sibling = sound.siblings x c led
+          none : (xs : List ℕ) → ((x : ℕ) → ¬ Has x xs) → xs ≡ []
+          none [] away = refl
+          none (x ∷ xs) away = absurd (away x (inl refl))
 
-          other : c ≢ o.id
-          other same = never_rect o.content smart (same_Some _ _ (sym (kind_is o.id o stands_there) ∙ ap (kind_at (get ties)) (sym same) ∙ sound.clippers x c led))
+          go : (n : ℕ) → order.in_order n (siblings groups) (Some id) ≡ []
+          go zero = refl
+          go (suc n) = ap (flat_map (λ x. x ∷ order.in_order n (siblings groups) (Some x))) (none (siblings groups (Some id)) memberless)
 
-          go : (ids : List ℕ) → IsWay over c ids → Has o.id (c ∷ ids) → Has x (inside board o)
-          go [] r h = elim h [ inl here ↦ absurd (other here) | inr later ↦ absurd later ]
-          go (q ∷ ids) r h = elim h [ inl here ↦ absurd (other here) | inr later ↦ meets x (ap is_some there) (q ∷ ids) (sym sibling ∙ r.0, r.1) (inr later) ]
+        -- what has a clipper inside stands inside, where the object is smart: a clipper is a rectangle and a sibling
+        pub inside_clipped : is_smart o ≡ true → (x c : ℕ) (p : Object) → of_id objects x ≡ Some p → p.clipper ≡ Some c → has (inside board id) c ≡ true → has (inside board id) x ≡ true
+        inside_clipped smart x c p there e gone =
+            has-Has (inside board id) x (go (along c).0 (along c).1 (met c (there_too c (clipper_there (get ties) sound x c led)) (along c).0 (along c).1 (nest.Has-has (inside board id) c gone)))
+          where
+            led : clipper_at (get ties) x ≡ Some c
+            led = clipper_is x p there ∙ e
+
+            sibling : over c ≡ over x
+            sibling = sound.siblings x c led
+
+            other : c ≢ id
+            other same = never_rect o.content smart (same_Some _ _ (sym (kind_is id o at) ∙ ap (kind_at (get ties)) (sym same) ∙ sound.clippers x c led))
+
+            go : (ids : List ℕ) → IsWay over c ids → Has id (c ∷ ids) → Has x (inside board id)
+            go [] r h = elim h [ inl here ↦ absurd (other here) | inr later ↦ absurd later ]
+            go (q ∷ ids) r h = elim h [ inl here ↦ absurd (other here) | inr later ↦ meets x (ap is_some there) (q ∷ ids) (sym sibling ∙ r.0, r.1) (inr later) ]

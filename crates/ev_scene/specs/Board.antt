@@ -1,10 +1,9 @@
 -- A scene, as its edits see it.
-use Rattle.std.specs.Prelude.{ℕ, ◌+◌, ◌≤◌, ℤ, Bool, List, [], ◌∷◌, map, filter_map, find, length, if◌then◌else◌, Option, Some, None, option_map}
+use Rattle.std.specs.Prelude.{ℕ, ◌+◌, ◌≤◌, ℤ, Bool, List, ◌∷◌, map, filter_map, find, length, Option, Some, None, option_map}
 use Rattle.std.specs.Str.{bytes_eq}
 use Rattle.ev_state.specs.Held.{Held}
 use Rattle.ev_model.specs.Order.{in_order}
 use Rattle.ev_model.specs.Stage.{Stage}
-use Rattle.ev_model.specs.Up.{is_smart}
 use Rattle.ev_model.specs.declared.object.Object.{Object}
 use Rattle.ev_groups.specs.Groups.{siblings}
 use Rattle.ev_links.specs.Ties.{Ties}
@@ -51,9 +50,9 @@ named objects name = find (is_named name) (live objects)
 abbrev pub ids_in : Board → Option ℕ → List ℕ
 ids_in b parent = in_order (length (live b.objects)) (siblings b.groups) parent
 
--- the ids of an object and of all that stands inside it. Only smart objects have members
-abbrev pub inside : Board → Object → List ℕ
-inside b o = o.id ∷ (if is_smart o then ids_in b (Some o.id) else [])
+-- the ids of an object and of all that stands inside it
+abbrev pub inside : Board → ℕ → List ℕ
+inside b id = id ∷ ids_in b (Some id)
 
 -- what is painted of a scene: its objects in their order
 abbrev pub stage_of : Board → Stage

@@ -60,14 +60,14 @@ leave_verdict board o = option_map refusal_of (leave_fault (ties_on board) o.id)
 abbrev pub may_shift : ℤ → ℤ → Object → Bool
 may_shift dx dy o = is_place (o.rect.x +ℤ dx) && is_place (o.rect.y +ℤ dy)
 
--- the objects that are an object or stand inside it
-abbrev pub objects_in : Board → Object → List Object
-objects_in board o = filter_map (of_id board.objects) (inside board o)
+-- an object and all objects that stand inside it
+abbrev pub objects_in : Board → ℕ → List Object
+objects_in board id = filter_map (of_id board.objects) (inside board id)
 
 -- a smart object takes along all that stands inside it, and each of these needs a place in range
 abbrev pub move_verdict : ℤ → ℤ → Board → Object → Option Refusal
 move_verdict x y board o =
-    unless (if is_smart o then list_all (may_shift (x -ℤ o.rect.x) (y -ℤ o.rect.y)) (objects_in board o) else is_place x && is_place y) refusal.Range
+    unless (if is_smart o then list_all (may_shift (x -ℤ o.rect.x) (y -ℤ o.rect.y)) (objects_in board o.id) else is_place x && is_place y) refusal.Range
 
 abbrev pub is_image : Content → Bool
 is_image (content.Image part) = true
@@ -125,9 +125,9 @@ with_named board name make = option_map_or make (named board.objects name) board
 abbrev pub entered : Option ℕ → Object → List (List (ℕ × ℤ)) → List (List (ℕ × ℤ))
 entered parent o groups = with_group groups parent (put_top (group groups parent) o.id o.layer)
 
--- the groups, where an object is gone from a parent
-abbrev pub gone_from : Option ℕ → Object → List (List (ℕ × ℤ)) → List (List (ℕ × ℤ))
-gone_from parent o groups = with_group groups parent (without (group groups parent) o.id)
+-- the groups, where an id is gone from a parent
+abbrev pub gone_from : Option ℕ → ℕ → List (List (ℕ × ℤ)) → List (List (ℕ × ℤ))
+gone_from parent id groups = with_group groups parent (without (group groups parent) id)
 
 -- a new object stands in no other one, and has no members
 abbrev pub made : Board → Object → Board
@@ -146,11 +146,11 @@ abbrev pub emptied : List ℕ → List (List (ℕ × ℤ)) → List (List (ℕ �
 emptied [] groups = groups
 emptied (id ∷ ids) groups = emptied ids (with_group groups (Some id) [])
 
--- an object goes with all that stands inside it
-abbrev pub deleted : Board → Object → Board
-deleted board o = record board {
-  objects = map (λ slot. option_and_then (left (inside board o)) slot) board.objects;
-  groups = emptied (inside board o) (gone_from o.parent o board.groups);
+-- an object goes from its parent, with all that stands inside it
+abbrev pub deleted : Board → ℕ → Option ℕ → Board
+deleted board id parent = record board {
+  objects = map (λ slot. option_and_then (left (inside board id)) slot) board.objects;
+  groups = emptied (inside board id) (gone_from parent id board.groups);
 }
 
 abbrev pub changed : Change → Board → Object → Board
@@ -161,12 +161,12 @@ abbrev pub shifted_by : ℤ → ℤ → Object → Object
 shifted_by dx dy o = apply (change.Move (o.rect.x +ℤ dx) (o.rect.y +ℤ dy)) o
 
 -- an object and all that stands inside it moved by dx and dy
-abbrev pub shifted_all : ℤ → ℤ → Board → Object → Board
-shifted_all dx dy board o = record board { objects = map (λ slot. option_map (λ p. if has (inside board o) p.id then shifted_by dx dy p else p) slot) board.objects }
+abbrev pub shifted_all : ℤ → ℤ → Board → ℕ → Board
+shifted_all dx dy board id = record board { objects = map (λ slot. option_map (λ p. if has (inside board id) p.id then shifted_by dx dy p else p) slot) board.objects }
 
 -- an object goes to x, y, and takes along all that stands inside it
 abbrev pub moved : ℤ → ℤ → Board → Object → Board
-moved x y board o = if is_smart o then shifted_all (x -ℤ o.rect.x) (y -ℤ o.rect.y) board o else changed (change.Move x y) board o
+moved x y board o = if is_smart o then shifted_all (x -ℤ o.rect.x) (y -ℤ o.rect.y) board o.id else changed (change.Move x y) board o
 
 -- two places in range lie no further apart than this
 pub record IsShift (d : ℤ) : Type 0 where
@@ -188,7 +188,7 @@ placed above board o p = regrouped (λ group. if above then placed_above group o
 
 -- an object goes from where it stands to the top of its layer in another parent, or in none
 abbrev pub rehomed : Option ℕ → Board → Object → Board
-rehomed parent board o = record (changed (change.Parent parent) board o) { groups = gone_from o.parent o (entered parent o board.groups) }
+rehomed parent board o = record (changed (change.Parent parent) board o) { groups = gone_from o.parent o.id (entered parent o board.groups) }
 
 -- a member stays where it is
 abbrev pub homed : Option ℕ → Board → Object → Board
@@ -198,7 +198,7 @@ homed parent board o = if option_eq nat_eq o.parent parent then board else rehom
 abbrev pub effect : Board → Edit → Board
 effect board (edit.Size w h) = record board { w = unsigned_abs w; h = unsigned_abs h }
 effect board (edit.Make name kind) = made board (fresh (next_id board) name kind)
-effect board (edit.Delete name) = with_named board name (deleted board)
+effect board (edit.Delete name) = with_named board name (λ o. deleted board o.id o.parent)
 effect board (edit.Move name x y) = with_named board name (moved x y board)
 effect board (edit.Resize name w h) = with_named board name (changed (change.Resize w h) board)
 effect board (edit.Show name on) = with_named board name (changed (change.Show on) board)
@@ -238,9 +238,13 @@ pub record IsLeft (old : Kept) (cause : Refusal) (new : Kept) : Type 0 where
   pub stays : new ≡ record old { made = new.made }
   pub free : cause ≢ refusal.NoMemory → new.made ≡ old.made
 
--- what an object clips stands beside it
-abbrev pub clipped_by : Board → Object → List Object
-clipped_by board o = filter (is_clipped_by o.id) (filter_map (of_id board.objects) (siblings board.groups o.parent))
+-- the objects of some ids that have this clipper
+abbrev pub clipped_among : List (Option Object) → List ℕ → ℕ → List Object
+clipped_among objects ids clipper = filter (is_clipped_by clipper) (filter_map (of_id objects) ids)
+
+-- what an object clips stands beside it, in the same parent
+abbrev pub clipped_by : Board → ℕ → Option ℕ → List Object
+clipped_by board id parent = clipped_among board.objects (siblings board.groups parent) id
 
 -- an object stands at x, y
 abbrev pub is_at : ℤ → ℤ → Object → Bool
@@ -248,11 +252,11 @@ is_at x y o = int_eq x o.rect.x && int_eq y o.rect.y
 
 -- how many objects a move changes, the named one counted: a move to where that one stands changes no other one
 abbrev pub move_writes : ℤ → ℤ → Board → Object → ℕ
-move_writes x y board o = if is_at x y o then 1 else length (inside board o)
+move_writes x y board o = if is_at x y o then 1 else length (inside board o.id)
 
 -- how many states an edit makes at most: one for the object that it names, and one for each other object that it changes and that stays
 abbrev pub writes : Board → Edit → ℕ
 writes board (edit.Size w h) = 0
 writes board (edit.Move name x y) = option_map_or (move_writes x y board) (named board.objects name) 1
-writes board (edit.Delete name) = option_map_or (λ o. length (clipped_by board o) + 1) (named board.objects name) 1
+writes board (edit.Delete name) = option_map_or (λ o. length (clipped_by board o.id o.parent) + 1) (named board.objects name) 1
 writes board other = 1

@@ -13,4 +13,3 @@ pub mod Shot
 pub mod Roll
 pub mod Whole
 pub mod Cast
-pub mod Sights

@@ -9,9 +9,9 @@ ghost use Rattle.ev_scene.specs.Shot.{IsShot, AreOrders};
 ghost use Rattle.ev_scene.specs.Cast.{IsCast, board_of};
 
 use crate::cast::Cast;
-use crate::sights::records;
 use crate::{NoMemory, SceneBox};
 use ev_model::{Objects, Record, Scene};
+use ev_sights::records;
 use std::marker::Model;
 
 /// A scene as it stood at a capture, with its records. Later edits leave it alone (docs/CANVAS.md,
@@ -81,7 +81,13 @@ impl Cast {
     {
         let _ties = self.links.len();
         let objects = self.shares()?;
-        let records = records(self.roll.alloc(), self.w, self.h, &self.roll, &objects)?;
+        let records = records(
+            self.roll.alloc(),
+            self.w,
+            self.h,
+            self.roll.slots(),
+            &objects,
+        )?;
         let scene = Scene {
             w: self.w,
             h: self.h,
@@ -93,8 +99,10 @@ impl Cast {
     // Shares of the states of all objects, in the order in which they are painted.
     fn shares(&self) -> Result<Objects, NoMemory>
         requires { IsCast self.now }
-        ensures objects { IfOk result (λ objects. values objects ≡ (stage_of (board_of self.now)).objects) }
-        ensures orders { IfOk result (λ objects. AreOrders self.now.groups (ids_in (board_of self.now) None)) }
+        ensures objects { IfOk result
+            (λ objects. values objects ≡ (stage_of (board_of self.now)).objects) }
+        ensures orders { IfOk result
+            (λ objects. AreOrders self.now.groups (ids_in (board_of self.now) None)) }
     {
         let alloc = self.roll.alloc();
         let mut ids = Vec::new(alloc);
@@ -117,7 +125,8 @@ impl Cast {
 
     // Puts a share of the state of an id on top, if an object has that id.
     fn push_share(&self, objects: &mut Objects, id: u64) -> Result<(), NoMemory>
-        ensures { OnOk result (values objects.new ≡ values objects.old ++ option_to_list (of_id (values_of self.now.roll.states) id)) }
+        ensures { OnOk result (values objects.new ≡ values objects.old
+            ++ option_to_list (of_id (values_of self.now.roll.states) id)) }
     {
         if let Some(state) = self.roll.state(id) {
             objects.push(state.share()?)?;

@@ -21,7 +21,8 @@ pub struct Cast {
 impl Cast {
     // A canvas of 320 by 240 pixels without objects.
     pub fn new(alloc: Global) -> Cast
-        ensures empty { kept_of result ≡ record { w = 320; h = 240; made = 0; states = []; groups = [] ∷ [] } }
+        ensures empty { kept_of result
+            ≡ record { w = 320; h = 240; made = 0; states = []; groups = [] ∷ [] } }
         ensures whole { IsCast result }
     {
         Cast {

@@ -98,7 +98,8 @@ pub fn resize(w: i64, h: i64) -> Option<Change>
 // A change of colour, where all four numbers are channels.
 #[tactic(auto, unfolding(crate::specs::Change::are_channels))]
 pub fn color(r: i64, g: i64, b: i64, a: i64) -> Option<Change>
-    ensures value { result ≡ (if are_channels r g b a then Some (Change.Color (color_of r g b a)) else None) }
+    ensures value { result
+        ≡ (if are_channels r g b a then Some (Change.Color (color_of r g b a)) else None) }
     ensures fit { IfSome result IsLook }
 {
     if is_channel(r) && is_channel(g) && is_channel(b) && is_channel(a) {

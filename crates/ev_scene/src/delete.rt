@@ -11,7 +11,7 @@ ghost use Rattle.ev_scene.specs.Board.{values_of, inside, MakesAtMost};
 ghost use Rattle.ev_scene.specs.Cast.{IsCast, kept_of, board_of};
 ghost use Rattle.ev_scene.specs.Change.{apply};
 ghost use Rattle.ev_scene.specs.ObjectTies.{tie_of};
-ghost use Rattle.ev_scene.specs.Edits.{Edits, IsLeft, deleted, emptied, writes};
+ghost use Rattle.ev_scene.specs.Edits.{Edits, IsLeft, clipped_among, clipped_by, deleted, emptied, writes};
 ghost use Rattle.ev_scene.specs.declared.change.Change.TheVariants as change;
 
 use crate::NoMemory;
@@ -28,9 +28,12 @@ impl Cast {
     pub fn delete(&mut self, name: &Name) -> Result<(), Refusal>
         requires whole { IsCast self.old }
         ensures whole { IsCast self.new }
-        ensures edits { Edits (board_of self.old) (edit.Delete name.now) result (board_of self.new) }
-        ensures refused { IfErr result (λ cause. IsLeft (kept_of self.old) cause (kept_of self.new)) }
-        ensures made { MakesAtMost (writes (board_of self.old) (edit.Delete name.now)) self.old.roll.made self.new.roll.made }
+        ensures edits { Edits (board_of self.old) (edit.Delete name.now) result
+            (board_of self.new) }
+        ensures refused { IfErr result
+            (λ cause. IsLeft (kept_of self.old) cause (kept_of self.new)) }
+        ensures made { MakesAtMost (writes (board_of self.old) (edit.Delete name.now))
+            self.old.roll.made self.new.roll.made }
     {
         let Some(object) = self.roll.named(name) else {
             return Err(Refusal::Unknown);
@@ -47,10 +50,12 @@ impl Cast {
     // A smart object goes, with all that stands inside it. What that clips goes as well.
     fn delete_group(&mut self, id: u64, parent: Option<u64>) -> Result<(), NoMemory>
         requires whole { IsCast self.old }
-        requires object { (o : Object) × (of_id (values_of self.old.roll.states) id ≡ Some o) × (o.parent ≡ parent) × (is_smart o ≡ true) }
+        requires object { (o : Object) × (of_id (values_of self.old.roll.states) id ≡ Some o)
+            × (o.parent ≡ parent) × (is_smart o ≡ true) }
         ensures whole { IsCast self.new }
-        ensures ok { OnOk result ((o : Object) → of_id (values_of self.old.roll.states) id ≡ Some o → board_of self.new ≡ deleted (board_of self.old) o) }
-        ensures err { OnErr result (kept_of self.new ≡ record (kept_of self.old) { made = self.new.roll.made }) }
+        ensures ok { OnOk result (board_of self.new ≡ deleted (board_of self.old) id parent) }
+        ensures err { OnErr result
+            (kept_of self.new ≡ record (kept_of self.old) { made = self.new.roll.made }) }
         ensures made { self.new.roll.made ≡ self.old.roll.made }
     {
         let ids = self.inside(id)?;
@@ -65,12 +70,14 @@ impl Cast {
     // Another object goes. What it clips has no clipper then.
     fn delete_one(&mut self, id: u64, parent: Option<u64>) -> Result<(), NoMemory>
         requires whole { IsCast self.old }
-        requires object { (o : Object) × (of_id (values_of self.old.roll.states) id ≡ Some o) × (o.parent ≡ parent) × (is_smart o ≡ false) }
+        requires object { (o : Object) × (of_id (values_of self.old.roll.states) id ≡ Some o)
+            × (o.parent ≡ parent) × (is_smart o ≡ false) }
         ensures whole { IsCast self.new }
-        ensures ok { OnOk result ((o : Object) → of_id (values_of self.old.roll.states) id ≡ Some o → board_of self.new ≡ deleted (board_of self.old) o) }
-        ensures err { OnErr result (kept_of self.new ≡ record (kept_of self.old) { made = self.new.roll.made }) }
-        ensures made { MakesAtMost (length (filter (is_clipped_by id) (filter_map (of_id (values_of self.old.roll.states))
-            (siblings self.old.groups parent)))) self.old.roll.made self.new.roll.made }
+        ensures ok { OnOk result (board_of self.new ≡ deleted (board_of self.old) id parent) }
+        ensures err { OnErr result
+            (kept_of self.new ≡ record (kept_of self.old) { made = self.new.roll.made }) }
+        ensures made { MakesAtMost (length (clipped_by (board_of self.old) id parent))
+            self.old.roll.made self.new.roll.made }
     {
         let released = released(&mut self.roll, &self.groups, &self.links, id, parent)?;
         self.tell_ties();
@@ -84,9 +91,9 @@ impl Cast {
         Ok(())
     }
 
-    // The ids of a smart object and of all that stands inside it.
+    // The ids of an object and of all that stands inside it.
     pub fn inside(&self, id: u64) -> Result<Vec<u64>, NoMemory>
-        ensures { IfOk result (λ ids. (o : Object) → o.id ≡ id → is_smart o ≡ true → ids.items ≡ inside (board_of self.now) o) }
+        ensures { IfOk result (λ ids. ids.items ≡ inside (board_of self.now) id) }
     {
         let mut ids = Vec::new(self.roll.alloc());
         ids.push(id)?;
@@ -107,7 +114,8 @@ fn clear_all(groups: &mut Groups, ids: &[u64])
 
 // Removes the objects of some ids.
 fn take_all(roll: &mut Roll, ids: &[u64])
-    ensures states { (q : ℕ) → of_id roll.new.states q ≡ (if has ids.now q then None else of_id roll.old.states q) }
+    ensures states { (q : ℕ) → of_id roll.new.states q
+        ≡ (if has ids.now q then None else of_id roll.old.states q) }
     ensures size { length roll.new.states ≡ length roll.old.states }
     ensures made { roll.new.made ≡ roll.old.made }
 {
@@ -124,12 +132,15 @@ fn released(
     id: u64,
     parent: Option<u64>,
 ) -> Result<Vec<Shared<Object>>, NoMemory>
-    requires tied { (q : ℕ) → get links.now q ≡ option_map tie_of (of_id (values_of roll.old.states) q) }
+    requires tied { (q : ℕ) → get links.now q
+        ≡ option_map tie_of (of_id (values_of roll.old.states) q) }
     ensures states { IfOk result (λ states. map value_of states.items
-        ≡ map (apply (change.Clip None)) (filter (is_clipped_by id) (filter_map (of_id (values_of roll.old.states)) (siblings groups.now parent)))) }
+        ≡ map (apply (change.Clip None))
+        (clipped_among (values_of roll.old.states) (siblings groups.now parent) id)) }
     ensures same { roll.new.states ≡ roll.old.states }
-    ensures made { MakesAtMost (length (filter (is_clipped_by id) (filter_map (of_id (values_of roll.old.states))
-        (siblings groups.now parent)))) roll.old.made roll.new.made }
+    ensures made { MakesAtMost
+        (length (clipped_among (values_of roll.old.states) (siblings groups.now parent) id))
+        roll.old.made roll.new.made }
 {
     if links.below_of(id) == 0 {
         return Ok(Vec::new(roll.alloc()));
@@ -145,10 +156,12 @@ fn released_beside(
     parent: Option<u64>,
 ) -> Result<Vec<Shared<Object>>, NoMemory>
     ensures states { IfOk result (λ states. map value_of states.items
-        ≡ map (apply (change.Clip None)) (filter (is_clipped_by id) (filter_map (of_id (values_of roll.old.states)) (siblings groups.now parent)))) }
+        ≡ map (apply (change.Clip None))
+        (clipped_among (values_of roll.old.states) (siblings groups.now parent) id)) }
     ensures same { roll.new.states ≡ roll.old.states }
-    ensures made { MakesAtMost (length (filter (is_clipped_by id) (filter_map (of_id (values_of roll.old.states))
-        (siblings groups.now parent)))) roll.old.made roll.new.made }
+    ensures made { MakesAtMost
+        (length (clipped_among (values_of roll.old.states) (siblings groups.now parent) id))
+        roll.old.made roll.new.made }
 {
     let mut states = Vec::new(roll.alloc());
     let siblings = groups.group(parent);
@@ -168,9 +181,13 @@ fn release(
     id: u64,
 ) -> Result<(), NoMemory>
     ensures states { OnOk result (map value_of states.new.items ≡ map value_of states.old.items
-        ++ map (apply (change.Clip None)) (filter (is_clipped_by clipper) (option_to_list (of_id (values_of roll.old.states) id)))) }
+        ++ map (apply (change.Clip None)) (filter (is_clipped_by clipper)
+        (option_to_list (of_id (values_of roll.old.states) id)))) }
     ensures same { roll.new.states ≡ roll.old.states }
-    ensures made { MakesAtMost (length (filter (is_clipped_by clipper) (option_to_list (of_id (values_of roll.old.states) id)))) roll.old.made roll.new.made }
+    ensures made { MakesAtMost
+        (length (filter (is_clipped_by clipper)
+        (option_to_list (of_id (values_of roll.old.states) id))))
+        roll.old.made roll.new.made }
 {
     if let Some(object) = roll.object(id) {
         if object.is_clipped_by(clipper) {

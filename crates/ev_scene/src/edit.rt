@@ -24,8 +24,10 @@ impl Cast {
         requires text { IsEdit edit.now }
         ensures whole { IsCast self.new }
         ensures edits { Edits (board_of self.old) edit.now result (board_of self.new) }
-        ensures refused { IfErr result (λ cause. IsLeft (kept_of self.old) cause (kept_of self.new)) }
-        ensures made { MakesAtMost (writes (board_of self.old) edit.now) self.old.roll.made self.new.roll.made }
+        ensures refused { IfErr result
+            (λ cause. IsLeft (kept_of self.old) cause (kept_of self.new)) }
+        ensures made { MakesAtMost (writes (board_of self.old) edit.now)
+            self.old.roll.made self.new.roll.made }
     {
         match edit {
             Edit::Size { w, h } => self.resize_canvas(*w, *h),
@@ -88,7 +90,8 @@ impl Cast {
         requires whole { IsCast self.old }
         ensures whole { IsCast self.new }
         ensures edits { Edits (board_of self.old) (edit.Size w h) result (board_of self.new) }
-        ensures refused { IfErr result (λ cause. IsLeft (kept_of self.old) cause (kept_of self.new)) }
+        ensures refused { IfErr result
+            (λ cause. IsLeft (kept_of self.old) cause (kept_of self.new)) }
         ensures made { self.new.roll.made ≡ self.old.roll.made }
     {
         if !is_between(1, 4096, w) || !is_between(1, 4096, h) {
@@ -103,8 +106,10 @@ impl Cast {
     fn make(&mut self, name: &Name, kind: Kind) -> Result<(), Refusal>
         requires whole { IsCast self.old }
         ensures whole { IsCast self.new }
-        ensures edits { Edits (board_of self.old) (edit.Make name.now kind) result (board_of self.new) }
-        ensures refused { IfErr result (λ cause. IsLeft (kept_of self.old) cause (kept_of self.new)) }
+        ensures edits { Edits (board_of self.old) (edit.Make name.now kind) result
+            (board_of self.new) }
+        ensures refused { IfErr result
+            (λ cause. IsLeft (kept_of self.old) cause (kept_of self.new)) }
         ensures made { MakesAtMost 1 self.old.roll.made self.new.roll.made }
     {
         if self.roll.named(name).is_some() {
@@ -129,17 +134,21 @@ impl Cast {
         Ok(())
     }
 
-    // Changes how an object looks, if it is one that the change is for. No change stands for numbers
-    // out of range.
+    // Changes how an object looks, if it is one that the change is for. No change stands for
+    // numbers out of range.
     fn change(&mut self, name: &Name, target: Target, change: Option<Change>) -> Result<(), Refusal>
         requires whole { IsCast self.old }
         requires look { ForSome change IsLook }
         ensures whole { IsCast self.new }
-        ensures ok { OnOk result ((known (board_of self.old) name.now (look_verdict target (is_some change)) ≡ None)
-            × IfSome change (λ c. board_of self.new ≡ with_named (board_of self.old) name.now (changed c (board_of self.old)))) }
-        ensures err { IfErr result (λ cause. Refuses (known (board_of self.old) name.now (look_verdict target (is_some change))) cause
+        ensures ok { OnOk result
+            ((known (board_of self.old) name.now (look_verdict target (is_some change)) ≡ None)
+            × IfSome change (λ c. board_of self.new
+            ≡ with_named (board_of self.old) name.now (changed c (board_of self.old)))) }
+        ensures err { IfErr result (λ cause. Refuses
+            (known (board_of self.old) name.now (look_verdict target (is_some change))) cause
             × (board_of self.new ≡ board_of self.old)) }
-        ensures refused { IfErr result (λ cause. IsLeft (kept_of self.old) cause (kept_of self.new)) }
+        ensures refused { IfErr result
+            (λ cause. IsLeft (kept_of self.old) cause (kept_of self.new)) }
         ensures made { MakesAtMost 1 self.old.roll.made self.new.roll.made }
     {
         let Some(object) = self.roll.named(name) else {

@@ -46,7 +46,9 @@ fn change_image_part(change: ImageChange, part: &mut ImagePart)
 // A change of the area in which an image repeats, where its numbers are in range.
 #[tactic(auto, unfolding(crate::specs::Change::is_fill))]
 pub fn fill(x: i64, y: i64, w: i64, h: i64) -> Option<Change>
-    ensures value { result ≡ (if is_fill x y w h then Some (Change.Image (ImageChange.Fill (fill_of x y w h))) else None) }
+    ensures value { result
+        ≡ (if is_fill x y w h then Some (Change.Image (ImageChange.Fill (fill_of x y w h)))
+        else None) }
     ensures fit { IfSome result IsLook }
 {
     if is_place(x) && is_place(y) && is_extent(w) && is_extent(h) {
@@ -81,7 +83,9 @@ fn fill_of(x: i64, y: i64, w: i64, h: i64) -> Fill
 // A change of the borders, where their numbers are in range.
 #[tactic(auto, unfolding(crate::specs::Change::is_border))]
 pub fn border(l: i64, r: i64, t: i64, b: i64) -> Option<Change>
-    ensures value { result ≡ (if is_border l r t b then Some (Change.Image (ImageChange.Border (border_of l r t b))) else None) }
+    ensures value { result
+        ≡ (if is_border l r t b then Some (Change.Image (ImageChange.Border (border_of l r t b)))
+        else None) }
     ensures fit { IfSome result IsLook }
 {
     if is_margin(l) && is_margin(r) && is_margin(t) && is_margin(b) {

@@ -14,7 +14,6 @@ mod loads;
 mod roll;
 mod scene_box;
 mod shift;
-mod sights;
 mod sound;
 mod stacking;
 #[cfg(test)]

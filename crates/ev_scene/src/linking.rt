@@ -25,8 +25,10 @@ impl Cast {
     pub fn clip(&mut self, name: &Name, clipper: &Name) -> Result<(), Refusal>
         requires whole { IsCast self.old }
         ensures whole { IsCast self.new }
-        ensures edits { Edits (board_of self.old) (edit.Clip name.now clipper.now) result (board_of self.new) }
-        ensures refused { IfErr result (λ cause. IsLeft (kept_of self.old) cause (kept_of self.new)) }
+        ensures edits { Edits (board_of self.old) (edit.Clip name.now clipper.now) result
+            (board_of self.new) }
+        ensures refused { IfErr result
+            (λ cause. IsLeft (kept_of self.old) cause (kept_of self.new)) }
         ensures made { MakesAtMost 1 self.old.roll.made self.new.roll.made }
     {
         self.tell_ties();
@@ -51,8 +53,10 @@ impl Cast {
     pub fn unclip(&mut self, name: &Name) -> Result<(), Refusal>
         requires whole { IsCast self.old }
         ensures whole { IsCast self.new }
-        ensures edits { Edits (board_of self.old) (edit.Unclip name.now) result (board_of self.new) }
-        ensures refused { IfErr result (λ cause. IsLeft (kept_of self.old) cause (kept_of self.new)) }
+        ensures edits { Edits (board_of self.old) (edit.Unclip name.now) result
+            (board_of self.new) }
+        ensures refused { IfErr result
+            (λ cause. IsLeft (kept_of self.old) cause (kept_of self.new)) }
         ensures made { MakesAtMost 1 self.old.roll.made self.new.roll.made }
     {
         let Some(object) = self.roll.named(name) else {
@@ -70,8 +74,10 @@ impl Cast {
     pub fn join(&mut self, name: &Name, smart: &Name) -> Result<(), Refusal>
         requires whole { IsCast self.old }
         ensures whole { IsCast self.new }
-        ensures edits { Edits (board_of self.old) (edit.Member name.now smart.now) result (board_of self.new) }
-        ensures refused { IfErr result (λ cause. IsLeft (kept_of self.old) cause (kept_of self.new)) }
+        ensures edits { Edits (board_of self.old) (edit.Member name.now smart.now) result
+            (board_of self.new) }
+        ensures refused { IfErr result
+            (λ cause. IsLeft (kept_of self.old) cause (kept_of self.new)) }
         ensures made { MakesAtMost 1 self.old.roll.made self.new.roll.made }
     {
         self.tell_ties();
@@ -100,7 +106,8 @@ impl Cast {
         requires whole { IsCast self.old }
         ensures whole { IsCast self.new }
         ensures edits { Edits (board_of self.old) (edit.Free name.now) result (board_of self.new) }
-        ensures refused { IfErr result (λ cause. IsLeft (kept_of self.old) cause (kept_of self.new)) }
+        ensures refused { IfErr result
+            (λ cause. IsLeft (kept_of self.old) cause (kept_of self.new)) }
         ensures made { MakesAtMost 1 self.old.roll.made self.new.roll.made }
     {
         self.tell_ties();
@@ -125,11 +132,15 @@ impl Cast {
     fn rehome(&mut self, id: u64, to: Option<u64>) -> Result<(), NoMemory>
         requires whole { IsCast self.old }
         requires there { is_some (of_id (values_of self.old.roll.states) id) ≡ true }
-        requires other { (o : Object) → of_id (values_of self.old.roll.states) id ≡ Some o → place o.parent ≢ place to }
+        requires other { (o : Object) → of_id (values_of self.old.roll.states) id ≡ Some o
+            → place o.parent ≢ place to }
         requires known { place to < length self.old.groups }
-        ensures ok { OnOk result ((o : Object) → of_id (values_of self.old.roll.states) id ≡ Some o → board_of self.new ≡ rehomed to (board_of self.old) o) }
-        ensures whole { OnOk result (IsWhole (board_of self.new) (with_parent self.old.links id to)) }
-        ensures err { OnErr result (kept_of self.new ≡ record (kept_of self.old) { made = self.new.roll.made }) }
+        ensures ok { OnOk result ((o : Object) → of_id (values_of self.old.roll.states) id ≡ Some o
+            → board_of self.new ≡ rehomed to (board_of self.old) o) }
+        ensures whole { OnOk result
+            (IsWhole (board_of self.new) (with_parent self.old.links id to)) }
+        ensures err { OnErr result
+            (kept_of self.new ≡ record (kept_of self.old) { made = self.new.roll.made }) }
         ensures links { self.new.links ≡ self.old.links }
         ensures made { MakesAtMost 1 self.old.roll.made self.new.roll.made }
     {
@@ -152,7 +163,8 @@ fn push_into(groups: &mut Groups, parent: Option<u64>, id: u64, layer: i32) -> R
     requires serial { id ≢ 0 }
     requires fresh { layer_in (group groups.old parent) id ≡ None }
     requires known { place parent < length groups.old }
-    ensures ok { OnOk result (groups.new ≡ with_group groups.old parent (put_top (group groups.old parent) id layer)) }
+    ensures ok { OnOk result
+        (groups.new ≡ with_group groups.old parent (put_top (group groups.old parent) id layer)) }
     ensures err { OnErr result (groups.new ≡ groups.old) }
 {
     groups.group_mut(parent)?.push_top(id, layer)

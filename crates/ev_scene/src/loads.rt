@@ -36,11 +36,15 @@ impl Cast {
         image: Arc<Image, Global>,
     ) -> Result<(), NoMemory>
         requires whole { IsCast self.old }
-        requires kind { option_map (λ o. kind_of o.content) (of_id (values_of self.old.roll.states) id) ≡ Some Kind.Image }
+        requires kind { option_map (λ o. kind_of o.content)
+            (of_id (values_of self.old.roll.states) id) ≡ Some Kind.Image }
         ensures whole { IsCast self.new }
-        ensures ok { OnOk result (board_of self.new ≡ with_image (board_of self.old) id number (arc_value image)) }
-        ensures alone { OnOk result (self.new.roll.states ≡ put self.old.roll.states id (of_id self.new.roll.states id)) }
-        ensures err { OnErr result (kept_of self.new ≡ record (kept_of self.old) { made = self.new.roll.made }) }
+        ensures ok { OnOk result
+            (board_of self.new ≡ with_image (board_of self.old) id number (arc_value image)) }
+        ensures alone { OnOk result
+            (self.new.roll.states ≡ put self.old.roll.states id (of_id self.new.roll.states id)) }
+        ensures err { OnErr result
+            (kept_of self.new ≡ record (kept_of self.old) { made = self.new.roll.made }) }
         ensures made { MakesAtMost 1 self.old.roll.made self.new.roll.made }
     {
         let loaded = LoadedImage::new(number, image);
@@ -57,11 +61,15 @@ impl Cast {
         font: Arc<Font, Global>,
     ) -> Result<(), NoMemory>
         requires whole { IsCast self.old }
-        requires kind { option_map (λ o. kind_of o.content) (of_id (values_of self.old.roll.states) id) ≡ Some Kind.Text }
+        requires kind { option_map (λ o. kind_of o.content)
+            (of_id (values_of self.old.roll.states) id) ≡ Some Kind.Text }
         ensures whole { IsCast self.new }
-        ensures ok { OnOk result (board_of self.new ≡ with_font (board_of self.old) id number (arc_value font)) }
-        ensures alone { OnOk result (self.new.roll.states ≡ put self.old.roll.states id (of_id self.new.roll.states id)) }
-        ensures err { OnErr result (kept_of self.new ≡ record (kept_of self.old) { made = self.new.roll.made }) }
+        ensures ok { OnOk result
+            (board_of self.new ≡ with_font (board_of self.old) id number (arc_value font)) }
+        ensures alone { OnOk result
+            (self.new.roll.states ≡ put self.old.roll.states id (of_id self.new.roll.states id)) }
+        ensures err { OnErr result
+            (kept_of self.new ≡ record (kept_of self.old) { made = self.new.roll.made }) }
         ensures made { MakesAtMost 1 self.old.roll.made self.new.roll.made }
     {
         let loaded = LoadedFont::new(number, font);

@@ -36,7 +36,11 @@ impl Model for Roll {
 
     ghost Value = { Entries };
 
-    ghost view = { λ r. record { made = r.tally; states = r.slots.slots; room = min r.slots.room (spare r.ids) } };
+    ghost view = { λ r. record {
+      made = r.tally;
+      states = r.slots.slots;
+      room = min r.slots.room (spare r.ids);
+    } };
 
     ghost invariant = { λ r. IsRoll r.slots.slots r.ids.entries };
 }
@@ -84,7 +88,8 @@ impl Roll {
     // The object of a name.
     pub fn named(&self, name: &Name) -> Option<&Object>
         ensures value { option_copied result ≡ named (values_of self.now.states) name.now }
-        ensures there { IfSome result (λ o. of_id (values_of self.now.states) o.now.id ≡ Some o.now) }
+        ensures there { IfSome result (λ o. of_id (values_of self.now.states) o.now.id
+            ≡ Some o.now) }
     {
         match self.ids.get(&Label { name: *name }) {
             Some(id) => self.object(*id),
@@ -107,6 +112,13 @@ impl Roll {
         ensures { option_copied result ≡ of_id self.now.states id }
     {
         self.slots.get(id)
+    }
+
+    // The states by their ids.
+    pub fn slots(&self) -> &Slots<Shared<Object>>
+        ensures { result.now.slots ≡ self.now.states }
+    {
+        &self.slots
     }
 
     // Makes room for one more object.
@@ -155,8 +167,10 @@ impl Roll {
         requires there { is_some (of_id self.old.states id) ≡ true }
         requires fit { IsFit change }
         ensures ok { OnOk result (values_of self.new.states
-            ≡ put (values_of self.old.states) id (option_map (apply change) (of_id (values_of self.old.states) id))) }
-        ensures alone { OnOk result (self.new.states ≡ put self.old.states id (of_id self.new.states id)) }
+            ≡ put (values_of self.old.states) id
+            (option_map (apply change) (of_id (values_of self.old.states) id))) }
+        ensures alone { OnOk result
+            (self.new.states ≡ put self.old.states id (of_id self.new.states id)) }
         ensures err { OnErr result (self.new.states ≡ self.old.states) }
         ensures made { MakesAtMost 1 self.old.made self.new.made }
     {
@@ -186,7 +200,8 @@ impl Roll {
     // Puts other states of some objects in place.
     pub fn replace_all(&mut self, mut states: Vec<Shared<Object>>)
         requires { All (IsStateOf self.old.states) states.items }
-        ensures states { values_of self.new.states ≡ spread (map value_of states.items) (values_of self.old.states) }
+        ensures states { values_of self.new.states
+            ≡ spread (map value_of states.items) (values_of self.old.states) }
         ensures made { self.new.made ≡ self.old.made }
     {
         while let Some(state) = states.pop() {
@@ -196,7 +211,9 @@ impl Roll {
 
     // Removes the object of an id, if there is one.
     pub fn take(&mut self, id: u64)
-        ensures states { self.new.states ≡ (if is_some (of_id self.old.states id) then put self.old.states id None else self.old.states) }
+        ensures states { self.new.states
+            ≡ (if is_some (of_id self.old.states id) then put self.old.states id None
+            else self.old.states) }
         ensures made { self.new.made ≡ self.old.made }
     {
         if let Some(object) = self.object(id) {

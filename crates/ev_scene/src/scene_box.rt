@@ -37,7 +37,8 @@ impl Model for SceneBox {
 impl SceneBox {
     /// A canvas of 320 by 240 pixels without objects.
     pub fn new(alloc: Global) -> Result<SceneBox, NoMemory>
-        ensures { IfOk result (λ s. s ≡ record { w = 320; h = 240; made = 0; states = []; groups = [] ∷ [] }) }
+        ensures { IfOk result
+            (λ s. s ≡ record { w = 320; h = 240; made = 0; states = []; groups = [] ∷ [] }) }
     {
         Ok(SceneBox {
             cast: Cast::new(alloc),
@@ -47,7 +48,8 @@ impl SceneBox {
     /// The id of the object of a name. None exactly where there is none.
     pub fn find(&self, name: &Name) -> Option<u64>
         ensures value { result ≡ option_map (λ o. o.id) (named (board self.now).objects name.now) }
-        ensures there { IfSome result (λ id. of_id (board self.now).objects id ≡ named (board self.now).objects name.now) }
+        ensures there { IfSome result (λ id. of_id (board self.now).objects id
+            ≡ named (board self.now).objects name.now) }
     {
         match self.cast.roll.named(name) {
             Some(object) => Some(object.id),
@@ -68,7 +70,8 @@ impl SceneBox {
     /// The file that a load of the object of an id fetches. None exactly where there is no such
     /// object or it has no file; rectangles and smart objects never have one.
     pub fn key_of(&self, id: u64) -> Option<Name>
-        ensures { result ≡ option_and_then (λ o. key_of o.content) (of_id (board self.now).objects id) }
+        ensures { result ≡ option_and_then (λ o. key_of o.content)
+            (of_id (board self.now).objects id) }
     {
         match self.cast.roll.object(id) {
             Some(object) => key_of(&object.content),
@@ -98,9 +101,12 @@ impl SceneBox {
         number: u64,
         image: Arc<Image, Global>,
     ) -> Result<(), NoMemory>
-        requires { option_map (λ o. kind_of o.content) (of_id (board self.old).objects id) ≡ Some Kind.Image }
-        ensures ok { OnOk result (board self.new ≡ with_image (board self.old) id number (arc_value image)) }
-        ensures alone { OnOk result (self.new.states ≡ put self.old.states id (of_id self.new.states id)) }
+        requires { option_map (λ o. kind_of o.content) (of_id (board self.old).objects id)
+            ≡ Some Kind.Image }
+        ensures ok { OnOk result
+            (board self.new ≡ with_image (board self.old) id number (arc_value image)) }
+        ensures alone { OnOk result
+            (self.new.states ≡ put self.old.states id (of_id self.new.states id)) }
         ensures err { OnErr result (self.new ≡ record self.old { made = self.new.made }) }
         ensures made { MakesAtMost 1 self.old.made self.new.made }
     {
@@ -115,9 +121,12 @@ impl SceneBox {
         number: u64,
         font: Arc<Font, Global>,
     ) -> Result<(), NoMemory>
-        requires { option_map (λ o. kind_of o.content) (of_id (board self.old).objects id) ≡ Some Kind.Text }
-        ensures ok { OnOk result (board self.new ≡ with_font (board self.old) id number (arc_value font)) }
-        ensures alone { OnOk result (self.new.states ≡ put self.old.states id (of_id self.new.states id)) }
+        requires { option_map (λ o. kind_of o.content) (of_id (board self.old).objects id)
+            ≡ Some Kind.Text }
+        ensures ok { OnOk result
+            (board self.new ≡ with_font (board self.old) id number (arc_value font)) }
+        ensures alone { OnOk result
+            (self.new.states ≡ put self.old.states id (of_id self.new.states id)) }
         ensures err { OnErr result (self.new ≡ record self.old { made = self.new.made }) }
         ensures made { MakesAtMost 1 self.old.made self.new.made }
     {

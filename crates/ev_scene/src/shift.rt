@@ -1,5 +1,5 @@
 // Moves.
-ghost use Rattle.std.specs.Prelude.{◌≡◌, ℕ, ◌+◌, List, ◌++◌, length, map, filter_map, option_to_list, OnOk, OnErr, IfOk, IfErr, Option, Some, None, true, if◌then◌else◌, ◌&&◌, ◌+ℤ◌, ◌-ℤ◌, pos};
+ghost use Rattle.std.specs.Prelude.{◌≡◌, ℕ, ◌+◌, List, ◌++◌, length, map, filter_map, option_to_list, OnOk, OnErr, IfOk, IfErr, Option, Some, None, is_some, true, if◌then◌else◌, ◌&&◌, ◌+ℤ◌, ◌-ℤ◌, pos};
 ghost use Rattle.std.specs.List.{list_all};
 ghost use Rattle.ev_geom.specs.Area.{is_place, IsPlace};
 ghost use Rattle.ev_model.specs.Up.{is_smart};
@@ -8,7 +8,7 @@ ghost use Rattle.ev_model.specs.declared.command.Edit.TheVariants as edit;
 ghost use Rattle.ev_scene.specs.Ids.{of_id, value_of};
 ghost use Rattle.ev_scene.specs.Board.{values_of, inside, MakesAtMost};
 ghost use Rattle.ev_scene.specs.Cast.{IsCast, kept_of, board_of};
-ghost use Rattle.ev_scene.specs.Edits.{Edits, IsLeft, Refuses, unless, may_shift, shifted_by, shifted_all, objects_in, IsShift, writes};
+ghost use Rattle.ev_scene.specs.Edits.{Answers, Edits, IsLeft, Refuses, unless, may_shift, shifted_by, shifted_all, objects_in, IsShift, writes};
 ghost use Rattle.ev_model.specs.declared.refusal.Refusal.TheVariants as refusal;
 
 use crate::NoMemory;
@@ -24,9 +24,12 @@ impl Cast {
     pub fn shift(&mut self, name: &Name, x: i64, y: i64) -> Result<(), Refusal>
         requires whole { IsCast self.old }
         ensures whole { IsCast self.new }
-        ensures edits { Edits (board_of self.old) (edit.Move name.now x y) result (board_of self.new) }
-        ensures refused { IfErr result (λ cause. IsLeft (kept_of self.old) cause (kept_of self.new)) }
-        ensures made { MakesAtMost (writes (board_of self.old) (edit.Move name.now x y)) self.old.roll.made self.new.roll.made }
+        ensures edits { Edits (board_of self.old) (edit.Move name.now x y) result
+            (board_of self.new) }
+        ensures refused { IfErr result
+            (λ cause. IsLeft (kept_of self.old) cause (kept_of self.new)) }
+        ensures made { MakesAtMost (writes (board_of self.old) (edit.Move name.now x y))
+            self.old.roll.made self.new.roll.made }
     {
         let Some(object) = self.roll.named(name) else {
             return Err(Refusal::Unknown);
@@ -46,17 +49,18 @@ impl Cast {
     // A smart object moves by dx and dy, with all that stands inside it.
     fn shift_group(&mut self, id: u64, dx: i64, dy: i64) -> Result<(), Refusal>
         requires whole { IsCast self.old }
-        requires object { (o : Object) × (of_id (values_of self.old.roll.states) id ≡ Some o) × (is_smart o ≡ true) }
+        requires there { is_some (of_id (values_of self.old.roll.states) id) ≡ true }
         requires columns { IsShift dx }
         requires rows { IsShift dy }
         ensures whole { IsCast self.new }
-        ensures ok { OnOk result ((o : Object) → of_id (values_of self.old.roll.states) id ≡ Some o
-            → (list_all (may_shift dx dy) (objects_in (board_of self.old) o) ≡ true) × (board_of self.new ≡ shifted_all dx dy (board_of self.old) o)) }
-        ensures err { IfErr result (λ cause. (o : Object) → of_id (values_of self.old.roll.states) id ≡ Some o
-            → Refuses (unless (list_all (may_shift dx dy) (objects_in (board_of self.old) o)) refusal.Range) cause × (board_of self.new ≡ board_of self.old)) }
-        ensures refused { IfErr result (λ cause. IsLeft (kept_of self.old) cause (kept_of self.new)) }
-        ensures made { (o : Object) → of_id (values_of self.old.roll.states) id ≡ Some o
-            → MakesAtMost (length (inside (board_of self.old) o)) self.old.roll.made self.new.roll.made }
+        ensures edits { Answers
+            (unless (list_all (may_shift dx dy) (objects_in (board_of self.old) id)) refusal.Range)
+            (board_of self.old) (shifted_all dx dy (board_of self.old) id) result
+            (board_of self.new) }
+        ensures refused { IfErr result
+            (λ cause. IsLeft (kept_of self.old) cause (kept_of self.new)) }
+        ensures made { MakesAtMost (length (inside (board_of self.old) id)) self.old.roll.made
+            self.new.roll.made }
         ensures still { dx ≡ pos 0 → dy ≡ pos 0 → self.new.roll.made ≡ self.old.roll.made }
     {
         let Ok(ids) = self.inside(id) else {
@@ -78,8 +82,9 @@ impl Cast {
         requires whole { IsCast self.now }
         requires columns { IsShift dx }
         requires rows { IsShift dy }
-        ensures { (o : Object) → of_id (values_of self.now.roll.states) id ≡ Some o → is_smart o ≡ true
-            → Refuses (unless (list_all (may_shift dx dy) (objects_in (board_of self.now) o)) refusal.Range) result }
+        requires there { is_some (of_id (values_of self.now.roll.states) id) ≡ true }
+        ensures { Refuses (unless (list_all (may_shift dx dy) (objects_in (board_of self.now) id))
+            refusal.Range) result }
     {
         self.tell_ties();
         for other in 1..self.roll.next_id() {
@@ -95,7 +100,8 @@ impl Cast {
 fn may_shift_all(roll: &Roll, ids: &[u64], dx: i64, dy: i64) -> bool
     requires columns { IsShift dx }
     requires rows { IsShift dy }
-    ensures { result ≡ list_all (may_shift dx dy) (filter_map (of_id (values_of roll.now.states)) ids.now) }
+    ensures { result ≡ list_all (may_shift dx dy)
+        (filter_map (of_id (values_of roll.now.states)) ids.now) }
 {
     for id in ids {
         if !may_shift_id(roll, *id, dx, dy) {
@@ -109,7 +115,8 @@ fn may_shift_all(roll: &Roll, ids: &[u64], dx: i64, dy: i64) -> bool
 fn may_shift_id(roll: &Roll, id: u64, dx: i64, dy: i64) -> bool
     requires columns { IsShift dx }
     requires rows { IsShift dy }
-    ensures { result ≡ list_all (may_shift dx dy) (option_to_list (of_id (values_of roll.now.states) id)) }
+    ensures { result ≡ list_all (may_shift dx dy)
+        (option_to_list (of_id (values_of roll.now.states) id)) }
 {
     match roll.object(id) {
         Some(object) => may_shift(object, dx, dy),
@@ -159,8 +166,11 @@ fn distance(at: i32, to: i64) -> i64
 fn shifted(roll: &mut Roll, ids: &[u64], dx: i64, dy: i64) -> Result<Vec<Shared<Object>>, NoMemory>
     requires columns { IsShift dx }
     requires rows { IsShift dy }
-    requires places { list_all (may_shift dx dy) (filter_map (of_id (values_of roll.old.states)) ids.now) ≡ true }
-    ensures states { IfOk result (λ states. map value_of states.items ≡ map (shifted_by dx dy) (filter_map (of_id (values_of roll.old.states)) ids.now)) }
+    requires places { list_all (may_shift dx dy)
+        (filter_map (of_id (values_of roll.old.states)) ids.now) ≡ true }
+    ensures states { IfOk result
+        (λ states. map value_of states.items
+        ≡ map (shifted_by dx dy) (filter_map (of_id (values_of roll.old.states)) ids.now)) }
     ensures same { roll.new.states ≡ roll.old.states }
     ensures made { MakesAtMost (length ids.now) roll.old.made roll.new.made }
 {
@@ -181,7 +191,8 @@ fn push_shifted(
 ) -> Result<(), NoMemory>
     requires columns { IsShift dx }
     requires rows { IsShift dy }
-    requires places { list_all (may_shift dx dy) (option_to_list (of_id (values_of roll.old.states) id)) ≡ true }
+    requires places { list_all (may_shift dx dy)
+        (option_to_list (of_id (values_of roll.old.states) id)) ≡ true }
     ensures states { OnOk result (map value_of states.new.items ≡ map value_of states.old.items
         ++ map (shifted_by dx dy) (option_to_list (of_id (values_of roll.old.states) id))) }
     ensures same { roll.new.states ≡ roll.old.states }

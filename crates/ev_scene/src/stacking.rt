@@ -20,8 +20,10 @@ impl Cast {
     pub fn relayer(&mut self, name: &Name, layer: i64) -> Result<(), Refusal>
         requires whole { IsCast self.old }
         ensures whole { IsCast self.new }
-        ensures edits { Edits (board_of self.old) (edit.Layer name.now layer) result (board_of self.new) }
-        ensures refused { IfErr result (λ cause. IsLeft (kept_of self.old) cause (kept_of self.new)) }
+        ensures edits { Edits (board_of self.old) (edit.Layer name.now layer) result
+            (board_of self.new) }
+        ensures refused { IfErr result
+            (λ cause. IsLeft (kept_of self.old) cause (kept_of self.new)) }
         ensures made { MakesAtMost 1 self.old.roll.made self.new.roll.made }
     {
         let Some(object) = self.roll.named(name) else {
@@ -40,8 +42,10 @@ impl Cast {
     pub fn restack(&mut self, name: &Name, up: bool) -> Result<(), Refusal>
         requires whole { IsCast self.old }
         ensures whole { IsCast self.new }
-        ensures edits { Edits (board_of self.old) (edit.Raise name.now up) result (board_of self.new) }
-        ensures refused { IfErr result (λ cause. IsLeft (kept_of self.old) cause (kept_of self.new)) }
+        ensures edits { Edits (board_of self.old) (edit.Raise name.now up) result
+            (board_of self.new) }
+        ensures refused { IfErr result
+            (λ cause. IsLeft (kept_of self.old) cause (kept_of self.new)) }
         ensures made { self.new.roll.made ≡ self.old.roll.made }
     {
         let Some(object) = self.roll.named(name) else {
@@ -55,8 +59,10 @@ impl Cast {
     pub fn place(&mut self, name: &Name, other: &Name, above: bool) -> Result<(), Refusal>
         requires whole { IsCast self.old }
         ensures whole { IsCast self.new }
-        ensures edits { Edits (board_of self.old) (edit.Place name.now other.now above) result (board_of self.new) }
-        ensures refused { IfErr result (λ cause. IsLeft (kept_of self.old) cause (kept_of self.new)) }
+        ensures edits { Edits (board_of self.old) (edit.Place name.now other.now above) result
+            (board_of self.new) }
+        ensures refused { IfErr result
+            (λ cause. IsLeft (kept_of self.old) cause (kept_of self.new)) }
         ensures made { self.new.roll.made ≡ self.old.roll.made }
     {
         let Some(object) = self.roll.named(name) else {
@@ -82,7 +88,8 @@ impl Cast {
 pub fn relayer_in(groups: &mut Groups, parent: Option<u64>, id: u64, layer: i32)
     requires there { is_in (group groups.old parent) id ≡ true }
     requires known { place parent < length groups.old }
-    ensures moved { groups.new ≡ with_group groups.old parent (relayered (group groups.old parent) id layer) }
+    ensures moved { groups.new
+        ≡ with_group groups.old parent (relayered (group groups.old parent) id layer) }
     ensures order { IsOrder (group groups.old parent) }
 {
     let Ok(siblings) = groups.group_mut(parent) else {
@@ -98,7 +105,9 @@ pub fn relayer_in(groups: &mut Groups, parent: Option<u64>, id: u64, layer: i32)
 pub fn restack_in(groups: &mut Groups, parent: Option<u64>, id: u64, up: bool)
     requires there { is_in (group groups.old parent) id ≡ true }
     requires known { place parent < length groups.old }
-    ensures moved { groups.new ≡ with_group groups.old parent ((if up then raised else lowered) (group groups.old parent) id) }
+    ensures moved { groups.new
+        ≡ with_group groups.old parent
+        ((if up then raised else lowered) (group groups.old parent) id) }
     ensures order { IsOrder (group groups.old parent) }
 {
     let Ok(siblings) = groups.group_mut(parent) else {
@@ -125,7 +134,9 @@ pub fn place_in(
     requires there { is_in (group groups.old parent) id ≡ true }
     requires known { place parent < length groups.old }
     ensures fault { result_err result ≡ place_fault (group groups.old parent) id other }
-    ensures ok { OnOk result (groups.new ≡ with_group groups.old parent ((if above then placed_above else placed_below) (group groups.old parent) id other)) }
+    ensures ok { OnOk result
+        (groups.new ≡ with_group groups.old parent
+        ((if above then placed_above else placed_below) (group groups.old parent) id other)) }
     ensures err { OnErr result (groups.new ≡ groups.old) }
     ensures order { IsOrder (group groups.old parent) }
 {
@@ -144,7 +155,8 @@ pub fn place_in(
 pub fn remove_from(groups: &mut Groups, parent: Option<u64>, id: u64)
     requires there { is_in (group groups.old parent) id ≡ true }
     requires known { place parent < length groups.old }
-    ensures moved { groups.new ≡ with_group groups.old parent (without (group groups.old parent) id) }
+    ensures moved { groups.new
+        ≡ with_group groups.old parent (without (group groups.old parent) id) }
     ensures order { IsOrder (group groups.old parent) }
 {
     let Ok(siblings) = groups.group_mut(parent) else {

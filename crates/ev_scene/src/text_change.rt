@@ -48,8 +48,10 @@ impl Cast {
         requires whole { IsCast self.old }
         requires text { IsText text.now }
         ensures whole { IsCast self.new }
-        ensures edits { Edits (board_of self.old) (edit.Say name.now text.entry) result (board_of self.new) }
-        ensures refused { IfErr result (λ cause. IsLeft (kept_of self.old) cause (kept_of self.new)) }
+        ensures edits { Edits (board_of self.old) (edit.Say name.now text.entry) result
+            (board_of self.new) }
+        ensures refused { IfErr result
+            (λ cause. IsLeft (kept_of self.old) cause (kept_of self.new)) }
         ensures made { MakesAtMost 1 self.old.roll.made self.new.roll.made }
     {
         let Some(object) = self.roll.named(name) else {

@@ -1,18 +1,17 @@
-use Rattle.std.proofs.Common.{◌≡◌, ◌≢◌, ℕ, List, [], All, length, get_or, map, None, sym, subst}
-use Rattle.std.specs.Prelude.{AllPairs, IsTrue}
-use Rattle.ev_model.specs.Chain.{ends}
+use Rattle.std.proofs.Common.{◌≢◌, ℕ, List, [], All, get_or, map, None, option_map, sym, subst, ap, ◌∙◌}
+use Rattle.std.specs.Prelude.{AllPairs}
 use Rattle.ev_model.specs.Limits.{IsObject}
 use Rattle.ev_model.specs.Order.{ids}
 use Rattle.ev_model.specs.Stage.{Stage, values}
-use Rattle.ev_model.specs.Up.{with_id, next}
 use Rattle.ev_model.specs.declared.object.Object.{Object}
 use Rattle.ev_stack.specs.LayerOrder.{IsOrder}
 use Rattle.ev_links.specs.Ties.{IsDistinct}
-use Rattle.ev_scene.specs.Ids.{of_id}
+use Rattle.ev_sights.specs.Sights.{HasObjects, HaveEnds}
+use Rattle.ev_scene.specs.Ids.{of_id, value_of}
 use Rattle.ev_scene.specs.Board.{values_of, ids_in}
 use Rattle.ev_scene.specs.Cast.{board_of}
 use Rattle.ev_scene.specs.Sound.{IsSound}
-use Rattle.ev_scene.proofs.Bounding.{records_on}
+use Rattle.ev_scene.proofs.Places.{of_id_map}
 use Rattle.ev_scene.proofs.Capturing.{are_objects, holds_in_order}
 use Rattle.ev_scene.proofs.Differing.{looks_differ}
 use Rattle.ev_scene.proofs.Trees.{order_found, ways, all_orders, order_once, sound_stage}
@@ -20,13 +19,12 @@ use Rattle.ev_scene.proofs.cast.Cast.capture.Goals as goal
 
 pub records-requires-clause-found : goal.records-requires-clause-found
 records-requires-clause-found c =
-    let P : List Object → Type 0 = λ objects. (id : ℕ) → with_id objects id ≡ of_id (values_of c.args.self.now.roll.states) id in
-    subst P (sym (c.in_ok-objects.ensures).objects) (order_found c.requires c.len-ties.ensures.sound)
+    let P : List Object → Type 0 = λ objects. HasObjects c.slots.result.now.slots objects in
+    subst P (sym (c.in_ok-objects.ensures).objects) (λ id. order_found c.requires c.len-ties.ensures.sound id ∙ of_id_map value_of c.args.self.now.roll.states id ∙ ap (λ states. option_map value_of (of_id states id)) (sym c.slots.ensures))
 
 pub records-requires-clause-ways : goal.records-requires-clause-ways
 records-requires-clause-ways c =
-    let P : List Object → Type 0 = λ objects. All (λ o. IsTrue (ends (length objects) (next objects) (next objects o))) objects in
-    subst P (sym (c.in_ok-objects.ensures).objects) (ways c.requires c.len-ties.ensures.sound)
+    subst HaveEnds (sym (c.in_ok-objects.ensures).objects) (ways c.requires c.len-ties.ensures.sound)
 
 pub invariant_of-result : goal.invariant_of-result
 invariant_of-result c =
@@ -48,7 +46,7 @@ invariant_of-result c =
       sound =
           subst R (sym (c.in_ok-objects.ensures).objects)
           (sound_stage c.requires c.len-ties.ensures.sound all);
-      looks = (c.in_ok-records.ensures);
-      apart = subst (λ looks. AllPairs (λ a b. a ≢ b) (map (λ l. l.id) looks)) (sym c.in_ok-records.ensures) (looks_differ seen once);
-      on_canvas = records_on seen _ limits c.in_ok-records.ensures;
+      looks = (c.in_ok-records.ensures).looks;
+      apart = subst (λ looks. AllPairs (λ a b. a ≢ b) (map (λ l. l.id) looks)) (sym (c.in_ok-records.ensures).looks) (looks_differ seen once);
+      on_canvas = (c.in_ok-records.ensures).on_canvas limits;
     }

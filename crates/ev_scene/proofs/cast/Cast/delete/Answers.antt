@@ -8,5 +8,5 @@ use Rattle.ev_scene.proofs.cast.Cast.delete.Goals as goal
 
 pub returns-in_err-delete_one-clause-made : goal.returns-in_err-delete_one-clause-made
 returns-in_err-delete_one-clause-made c =
-    subst (λ found. MakesAtMost (option_map_or (λ o. length (clipped_by (board_of c.args.self.now) o) + 1) found 1) c.args.self.now.roll.made c.delete_one.new.self.roll.made) (c.in-Some.ensures).value
+    subst (λ found. MakesAtMost (option_map_or (λ o. length (clipped_by (board_of c.args.self.now) o.id o.parent) + 1) found 1) c.args.self.now.roll.made c.delete_one.new.self.roll.made) (c.in-Some.ensures).value
     (makes_both c.delete_one.ensures.made makes_none)

@@ -1,5 +1,5 @@
 use Rattle.ev_groups.specs.Groups.{siblings}
-use Rattle.ev_scene.proofs.Deleting.{gone_known, one_memberless, one_whole, one_board}
+use Rattle.ev_scene.proofs.Deleting.{gone_known, memberless, one_whole, one_board}
 use Rattle.ev_scene.proofs.Releasing.{released_states}
 use Rattle.ev_scene.proofs.cast.Cast.delete_one.Goals as goal
 
@@ -8,12 +8,11 @@ released-requires c = record { tied = c.requires.whole.tied }
 
 pub drop_id-requires : goal.drop_id-requires
 drop_id-requires c =
-    one_memberless c.args.self.now.roll.states c.requires.whole c.args.id c.args.parent c.requires.object.0 c.requires.object.1 c.requires.object.2
-    c.tell_ties.ensures c.requires.object.3
+    memberless c.args.self.now.roll.states c.requires.whole c.tell_ties.ensures c.args.id c.args.parent c.requires.object.0 c.requires.object.1 c.requires.object.2 c.requires.object.3
 
 pub remove_from-requires-clause-known : goal.remove_from-requires-clause-known
 remove_from-requires-clause-known c =
-    gone_known c.args.self.now.roll.states c.requires.whole c.args.id c.args.parent c.requires.object.0 c.requires.object.1 c.requires.object.2
+    gone_known c.args.self.now.roll.states c.requires.whole c.tell_ties.ensures c.args.id c.args.parent c.requires.object.0 c.requires.object.1 c.requires.object.2
 
 pub replace_all-requires : goal.replace_all-requires
 replace_all-requires c =
@@ -22,8 +21,7 @@ replace_all-requires c =
 
 pub returns-clause-whole : goal.returns-clause-whole
 returns-clause-whole c =
-    one_whole c.args.self.now.roll.states c.requires.whole c.args.id c.args.parent c.requires.object.0 c.requires.object.1 c.requires.object.2
-    c.tell_ties.ensures c.requires.object.3
+    one_whole c.args.self.now.roll.states c.requires.whole c.tell_ties.ensures c.args.id c.args.parent c.requires.object.0 c.requires.object.1 c.requires.object.2 c.requires.object.3
     c.in_ok-released.released.items (c.in_ok-released.ensures).states c.released.new.roll.states c.released.ensures.same
     c.remove_from.new.groups c.clear.new.self c.remove_from.ensures.moved c.clear.ensures
     c.replace_all.new.self.states c.take.new.self.states c.replace_all.ensures.states c.take.ensures.states
@@ -31,8 +29,7 @@ returns-clause-whole c =
 
 pub returns-clause-ok : goal.returns-clause-ok
 returns-clause-ok c =
-    one_board c.args.self.now.roll.states c.requires.whole c.args.id c.args.parent c.requires.object.0 c.requires.object.1 c.requires.object.2
-    c.tell_ties.ensures c.requires.object.3
+    one_board c.args.self.now.roll.states c.requires.whole c.tell_ties.ensures c.args.id c.args.parent c.requires.object.0 c.requires.object.1 c.requires.object.2 c.requires.object.3
     c.in_ok-released.released.items (c.in_ok-released.ensures).states c.released.new.roll.states c.released.ensures.same
     c.remove_from.new.groups c.clear.new.self c.remove_from.ensures.moved c.clear.ensures
     c.replace_all.new.self.states c.take.new.self.states c.replace_all.ensures.states c.take.ensures.states

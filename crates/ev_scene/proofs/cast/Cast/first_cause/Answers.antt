@@ -7,10 +7,10 @@ use Rattle.ev_scene.proofs.cast.Cast.first_cause.Goals as goal
 use Rattle.ev_scene.proofs.cast.Cast.first_cause.Goals.{else-inside-via-then-inside+else-not-may_shift_id, else-inside-via-else-inside}
 
 pub returns-then-not-may_shift_id : goal.returns-then-not-may_shift_id
-returns-then-not-may_shift_id c o there smart =
+returns-then-not-may_shift_id c =
     let dx : FitsSigned w64 c.args.dx = search rules in
     let dy : FitsSigned w64 c.args.dy = search rules in
-    refused_range c.requires.whole c.args.dx c.args.dy c.args.id o there c.tell_ties.ensures c.loop-other.other
+    refused_range c.requires.whole c.tell_ties.ensures c.args.dx c.args.dy c.args.id c.requires.there c.loop-other.other
     (sym c.inside.ensures ∙ c.if-inside.true)
     (told_may c.args.dx c.args.dy dx dy (option_to_list (of_id (values_of c.args.self.now.roll.states) c.loop-other.other)) c.may_shift_id.result c.may_shift_id.ensures ∙ c.if-not-may_shift_id.true)
 
@@ -22,9 +22,9 @@ loop-other-preserved c = may_next _ _ (values_of c.args.self.now.roll.states) c.
     ])
 
 pub returns : goal.returns
-returns c o there smart =
+returns c =
     let dx : FitsSigned w64 c.args.dx = search rules in
     let dy : FitsSigned w64 c.args.dy = search rules in
-    refused_memory c.requires.whole c.args.dx c.args.dy c.args.id o there c.tell_ties.ensures c.loop-other.other
+    refused_memory c.requires.whole c.tell_ties.ensures c.args.dx c.args.dy c.args.id c.requires.there c.loop-other.other
     (all_below c.args.self.now.roll.states c.next_id-other-end.result c.loop-other.other c.next_id-other-end.ensures c.loop-other-test.false)
     (told_below c.args.dx c.args.dy dx dy (values_of c.args.self.now.roll.states) c.args.self.now.links c.args.id c.loop-other.other c.loop-other.invariant)

@@ -26,8 +26,8 @@ returns-then-is_smart-clause-edits c =
     let dy : FitsSigned w64 c.distance-dy.result = search rules in
     let along : c.distance-dx.result ≡ c.args.x -ℤ c.in-Some.object.now.rect.x = search rules in
     let down : c.distance-dy.result ≡ c.args.y -ℤ c.in-Some.object.now.rect.y = search rules in
-    group_answers (board_of c.args.self.now) c.args.name.now c.in-Some.object.now (c.in-Some.ensures).value c.args.x c.args.y (c.in-Some.ensures).there (sym c.is_smart.ensures ∙ c.if-is_smart.true)
-    _ _ (to_z-of_z w64 c.distance-dx.result dx ∙ along) (to_z-of_z w64 c.distance-dy.result dy ∙ down) c.shift_group.result (board_of c.shift_group.new.self) c.shift_group.ensures.ok c.shift_group.ensures.err
+    group_answers (board_of c.args.self.now) c.args.name.now c.in-Some.object.now (c.in-Some.ensures).value c.args.x c.args.y (sym c.is_smart.ensures ∙ c.if-is_smart.true)
+    _ _ (to_z-of_z w64 c.distance-dx.result dx ∙ along) (to_z-of_z w64 c.distance-dy.result dy ∙ down) c.shift_group.result (board_of c.shift_group.new.self) c.shift_group.ensures.edits
 
 pub returns-then-is_smart-clause-made : goal.returns-then-is_smart-clause-made
 returns-then-is_smart-clause-made c =
@@ -37,7 +37,7 @@ returns-then-is_smart-clause-made c =
     let down : c.distance-dy.result ≡ c.args.y -ℤ c.in-Some.object.now.rect.y = search rules in
     group_made (board_of c.args.self.now) c.args.name.now c.in-Some.object.now (c.in-Some.ensures).value c.args.x c.args.y
     _ _ (to_z-of_z w64 c.distance-dx.result dx ∙ along) (to_z-of_z w64 c.distance-dy.result dy ∙ down) c.args.self.now.roll.made c.shift_group.new.self.roll.made
-    (c.shift_group.ensures.made c.in-Some.object.now (c.in-Some.ensures).there) c.shift_group.ensures.still
+    c.shift_group.ensures.made c.shift_group.ensures.still
 
 pub change-requires-clause-there : goal.change-requires-clause-there
 change-requires-clause-there c = has_state c.args.self.now.roll.states c.in-Some.object.now.id c.in-Some.object.now (c.in-Some.ensures).there

@@ -1,33 +1,36 @@
-use Rattle.std.proofs.Common.{◌≡◌, to_z, map, filter_map, FitsSigned, w64, refl, ap, ◌∙◌, sym, rules, subst, All}
+use Rattle.std.proofs.Common.{◌≡◌, to_z, map, filter_map, FitsSigned, w64, refl, ap, ap₂, ◌∙◌, sym, rules, subst, All}
 use Rattle.std.proofs.lemmas.Int.{to_z-of_z}
 use Rattle.std.specs.List.{list_all}
 use Rattle.ev_scene.specs.Ids.{of_id, value_of}
 use Rattle.ev_scene.specs.Board.{values_of}
+use Rattle.ev_scene.specs.Cast.{board_of}
 use Rattle.ev_scene.specs.Roll.{IsStateOf}
-use Rattle.ev_scene.specs.Edits.{may_shift, shifted_by}
-use Rattle.ev_scene.proofs.Shifting.{all_states, shifted_whole}
+use Rattle.ev_scene.specs.Edits.{may_shift, shifted_by, shifted_all}
+use Rattle.ev_scene.proofs.Shifting.{all_states, shifted_whole, not_shifted}
 use Rattle.ev_scene.proofs.Spreading.{listed_stand}
-use Rattle.ev_scene.proofs.Refusing.{told_may, told_states, group_stays, group_moves, group_rests, spread_is}
+use Rattle.ev_scene.proofs.Refusing.{out_of_range, in_range, told_may, told_states, group_moved, spread_is}
 use Rattle.ev_scene.proofs.cast.Cast.shift_group.Goals as goal
 
-pub returns-then-not-may_shift_all-clause-err : goal.returns-then-not-may_shift_all-clause-err
-returns-then-not-may_shift_all-clause-err c o there =
+pub returns-then-not-may_shift_all-clause-edits : goal.returns-then-not-may_shift_all-clause-edits
+returns-then-not-may_shift_all-clause-edits c =
     let dx : FitsSigned w64 c.args.dx = search rules in
-    let dy : FitsSigned w64 c.args.dy = search rules in (
-      group_stays c.requires.whole c.args.dx c.args.dy c.args.id c.deref.result.now
-          (λ o id smart. c.deref.ensures.value ∙ c.in-Ok.ensures o id smart) c.requires.object
-          (told_may c.args.dx c.args.dy dx dy (filter_map (of_id (values_of c.args.self.now.roll.states)) c.deref.result.now) c.may_shift_all.result c.may_shift_all.ensures ∙ c.if-not-may_shift_all.true) o there,
+    let dy : FitsSigned w64 c.args.dy = search rules in
+    let all : c.deref.result.now ≡ _ = c.deref.ensures.value ∙ c.in-Ok.ensures in (
+      out_of_range _ (ap (λ ids. list_all (may_shift c.args.dx c.args.dy) (filter_map (of_id (values_of c.args.self.now.roll.states)) ids)) (sym all)
+          ∙ told_may c.args.dx c.args.dy dx dy (filter_map (of_id (values_of c.args.self.now.roll.states)) c.deref.result.now) c.may_shift_all.result c.may_shift_all.ensures ∙ c.if-not-may_shift_all.true),
       refl,
     )
 
-pub returns-then-dy-eq0-clause-ok : goal.returns-then-dy-eq0-clause-ok
-returns-then-dy-eq0-clause-ok c =
+pub returns-then-dy-eq0-clause-edits : goal.returns-then-dy-eq0-clause-edits
+returns-then-dy-eq0-clause-edits c =
     let dx : FitsSigned w64 c.args.dx = search rules in
     let dy : FitsSigned w64 c.args.dy = search rules in
-    group_rests c.requires.whole c.args.dx c.args.dy c.args.id c.deref.result.now
-    (λ o id smart. c.deref.ensures.value ∙ c.in-Ok.ensures o id smart) c.requires.object
-    (sym (to_z-of_z w64 c.args.dx dx) ∙ ap (to_z w64) c.if-dx-eq0.true) (sym (to_z-of_z w64 c.args.dy dy) ∙ ap (to_z w64) c.if-dy-eq0.true)
-    (told_may c.args.dx c.args.dy dx dy (filter_map (of_id (values_of c.args.self.now.roll.states)) c.deref.result.now) c.may_shift_all.result c.may_shift_all.ensures ∙ c.if-not-may_shift_all.false)
+    let all : c.deref.result.now ≡ _ = c.deref.ensures.value ∙ c.in-Ok.ensures in (
+      in_range _ (ap (λ ids. list_all (may_shift c.args.dx c.args.dy) (filter_map (of_id (values_of c.args.self.now.roll.states)) ids)) (sym all)
+          ∙ told_may c.args.dx c.args.dy dx dy (filter_map (of_id (values_of c.args.self.now.roll.states)) c.deref.result.now) c.may_shift_all.result c.may_shift_all.ensures ∙ c.if-not-may_shift_all.false),
+      sym (ap₂ (λ dx dy. shifted_all dx dy (board_of c.args.self.now) c.args.id) (sym (to_z-of_z w64 c.args.dx dx) ∙ ap (to_z w64) c.if-dx-eq0.true) (sym (to_z-of_z w64 c.args.dy dy) ∙ ap (to_z w64) c.if-dy-eq0.true)
+          ∙ not_shifted (board_of c.args.self.now) c.args.id),
+    )
 
 pub replace_all-requires : goal.replace_all-requires
 replace_all-requires c =
@@ -47,15 +50,15 @@ returns-clause-whole c =
     (told_states c.args.dx c.args.dy dx dy (filter_map (of_id (values_of c.args.self.now.roll.states)) c.deref-2.result.now) (map value_of c.in_ok-states.states.items) (c.in_ok-states.ensures).states)
     c.replace_all.ensures.states)
 
-pub returns-clause-ok : goal.returns-clause-ok
-returns-clause-ok c o there =
+pub returns-clause-edits : goal.returns-clause-edits
+returns-clause-edits c =
     let dx : FitsSigned w64 c.args.dx = search rules in
     let dy : FitsSigned w64 c.args.dy = search rules in
-    let same : c.deref-2.result.now ≡ c.deref.result.now = c.deref-2.ensures.value ∙ sym c.deref.ensures.value in
-    group_moves c.requires.whole c.args.dx c.args.dy c.args.id c.deref-2.result.now
-    (λ o id smart. c.deref-2.ensures.value ∙ c.in-Ok.ensures o id smart) c.requires.object (values_of c.replace_all.new.self.states)
-    (ap (λ ids. list_all (may_shift c.args.dx c.args.dy) (filter_map (of_id (values_of c.args.self.now.roll.states)) ids)) same
-    ∙ told_may c.args.dx c.args.dy dx dy (filter_map (of_id (values_of c.args.self.now.roll.states)) c.deref.result.now) c.may_shift_all.result c.may_shift_all.ensures ∙ c.if-not-may_shift_all.false)
-    (spread_is c.args.self.now.roll.states c.shifted.new.roll.states (map value_of c.in_ok-states.states.items) _ (values_of c.replace_all.new.self.states) (c.in_ok-states.ensures).same
-    (told_states c.args.dx c.args.dy dx dy (filter_map (of_id (values_of c.args.self.now.roll.states)) c.deref-2.result.now) (map value_of c.in_ok-states.states.items) (c.in_ok-states.ensures).states)
-    c.replace_all.ensures.states) o there
+    let all : c.deref.result.now ≡ _ = c.deref.ensures.value ∙ c.in-Ok.ensures in (
+      in_range _ (ap (λ ids. list_all (may_shift c.args.dx c.args.dy) (filter_map (of_id (values_of c.args.self.now.roll.states)) ids)) (sym all)
+          ∙ told_may c.args.dx c.args.dy dx dy (filter_map (of_id (values_of c.args.self.now.roll.states)) c.deref.result.now) c.may_shift_all.result c.may_shift_all.ensures ∙ c.if-not-may_shift_all.false),
+      group_moved c.requires.whole c.args.dx c.args.dy c.args.id c.deref-2.result.now (c.deref-2.ensures.value ∙ c.in-Ok.ensures) (values_of c.replace_all.new.self.states)
+          (spread_is c.args.self.now.roll.states c.shifted.new.roll.states (map value_of c.in_ok-states.states.items) _ (values_of c.replace_all.new.self.states) (c.in_ok-states.ensures).same
+          (told_states c.args.dx c.args.dy dx dy (filter_map (of_id (values_of c.args.self.now.roll.states)) c.deref-2.result.now) (map value_of c.in_ok-states.states.items) (c.in_ok-states.ensures).states)
+          c.replace_all.ensures.states),
+    )

@@ -1,7 +1,7 @@
 use Rattle.std.proofs.Common.{sym, ◌∙◌, subst}
-use Rattle.ev_scene.specs.Sights.{stage_on, IsColor}
-use Rattle.ev_scene.proofs.Sighting.{climb_ends, tinted_from, fewer_from}
-use Rattle.ev_scene.proofs.sights.tinted.Goals as goal
+use Rattle.ev_sights.specs.Sights.{stage_on, IsColor}
+use Rattle.ev_sights.proofs.Sighting.{climb_ends, tinted_from, fewer_from}
+use Rattle.ev_sights.proofs.sights.tinted.Goals as goal
 
 pub next_tinted-at-requires-clause-ends : goal.next_tinted-at-requires-clause-ends
 next_tinted-at-requires-clause-ends c = climb_ends (stage_on c.args.ground.now).objects c.loop-at.at c.or.result c.in-Some.id c.in-Some-object.object.now c.in-Some.is (sym c.in-Some-object.ensures) c.or.ensures c.loop-at.invariant.ends

@@ -1,7 +1,7 @@
 use Rattle.std.proofs.Common.{ℕ, Option, sym, subst}
-use Rattle.ev_scene.specs.Sights.{TintsAs}
+use Rattle.ev_sights.specs.Sights.{TintsAs}
 use Rattle.ev_model.specs.Stage.{values}
-use Rattle.ev_scene.proofs.sights.next_tinted.Goals as goal
+use Rattle.ev_sights.proofs.sights.next_tinted.Goals as goal
 
 pub returns-in-Some : goal.returns-in-Some
 returns-in-Some c =

@@ -1,35 +1,22 @@
-// The records of a scene, whose objects may have others over them. What an object leaves to those
-// below it is found once, and remembered.
-ghost use Rattle.std.specs.Prelude.{◌≡◌, ◌≤◌, ℕ, ◌++◌, IsTrue, IfOk, OnOk, All, map, length, option_copied, option_map, option_to_list, []};
-ghost use Rattle.std.specs.List.{list_any};
-ghost use Rattle.ev_model.specs.Chain.{ends};
+// What is seen of objects that may have others over them. What an object leaves to those below it is
+// found once, and remembered.
+ghost use Rattle.std.specs.Prelude.{◌≡◌, ◌≤◌, ℕ, ◌++◌, IfOk, OnOk, All, map, option_map, option_to_list, []};
+ghost use Rattle.ev_model.specs.Capture.{IsLookOn};
+ghost use Rattle.ev_model.specs.Limits.{IsObject};
 ghost use Rattle.ev_model.specs.Look.{look_of, look, looks};
 ghost use Rattle.ev_model.specs.Stage.{values};
-ghost use Rattle.ev_model.specs.Up.{with_id, next, cut, is_clipped_by};
-ghost use Rattle.ev_scene.specs.Ids.{of_id};
-ghost use Rattle.ev_scene.specs.Board.{values_of};
-ghost use Rattle.ev_scene.specs.Sights.{over, way, Ends, tinted, is_white, IsColor, TintsAs, IsSight, bare, lowered, AreSights, IsClimbed, AreClippers, stage_on, IsGround, look_as};
+ghost use Rattle.ev_model.specs.Up.{cut};
+ghost use Rattle.ev_sights.specs.Sights.{HasObjects, HaveEnds, over, way, Ends, tinted, is_white, IsColor, TintsAs, IsSight, bare, lowered, AreSights, IsClimbed, stage_on, IsGround, look_as};
 
 use crate::NoMemory;
-use crate::roll::Roll;
+use crate::ground::{Ground, clippers};
 use ev_argb::{Pixel, tint};
 use ev_geom::Rect;
 use ev_model::{Object, Objects, Record};
+use ev_slots::Slots;
 use ev_state::Shared;
 use std::alloc::Global;
-use std::collections::{HashMap, HashSet};
-
-// What is read of the scene: its size, its objects by their ids and in their order, and the ids of
-// those that clip another.
-#[derive(Drop)]
-struct Ground<'a> {
-    alloc: Global,
-    w: u32,
-    h: u32,
-    roll: &'a Roll,
-    objects: &'a Objects,
-    clippers: HashSet<u64>,
-}
+use std::collections::HashMap;
 
 // What the objects from one on up its way leave to those below: the pixels of the canvas, whether
 // all are visible, and the first of them that tints, if any does.
@@ -47,25 +34,32 @@ struct Seen {
     color: Pixel,
 }
 
-// The records of objects in their order, which the roll has by their ids.
+/// The records of a scene of w by h pixels: what is seen of its objects, in the order in which they
+/// stand (docs/CANVAS.md, "Painting"). The same objects have their states by their ids in `slots`, and
+/// the way up of each comes to an end. Where the objects keep their limits, each record's area lies on
+/// the canvas and has pixels. It costs a step for each object, however deep they stand. `NoMemory`
+/// where there is no room.
 pub fn records(
     alloc: Global,
     w: u32,
     h: u32,
-    roll: &Roll,
+    slots: &Slots<Shared<Object>>,
     objects: &Objects,
 ) -> Result<Vec<Record>, NoMemory>
     requires width { w ≤ 4096 }
     requires height { h ≤ 4096 }
-    requires found { (id : ℕ) → with_id (values objects.now) id ≡ of_id (values_of roll.now.states) id }
-    requires ways { All (λ o. IsTrue (ends (length (values objects.now)) (next (values objects.now)) (next (values objects.now) o))) (values objects.now) }
-    ensures { IfOk result (λ records. map look_of records.items ≡ looks (record { w = w; h = h; objects = values objects.now })) }
+    requires found { HasObjects slots.now.slots (values objects.now) }
+    requires ways { HaveEnds (values objects.now) }
+    ensures looks { IfOk result (λ records. map look_of records.items
+        ≡ looks (record { w = w; h = h; objects = values objects.now })) }
+    ensures on_canvas { All IsObject (values objects.now)
+        → IfOk result (λ records. All (λ r. IsLookOn w h (look_of r)) records.items) }
 {
     let ground = Ground {
         alloc,
         w,
         h,
-        roll,
+        slots,
         objects,
         clippers: clippers(alloc, objects)?,
     };
@@ -75,19 +69,6 @@ pub fn records(
         push_record(&ground, &mut known, &mut records, state)?;
     }
     Ok(records)
-}
-
-// The ids of all objects that clip another.
-fn clippers(alloc: Global, objects: &Objects) -> Result<HashSet<u64>, NoMemory>
-    ensures { IfOk result (λ clippers. AreClippers (values objects.now) clippers) }
-{
-    let mut clippers = HashSet::new(alloc);
-    for state in objects.as_slice() {
-        if let Some(id) = state.get().clipper {
-            clippers.insert(id)?;
-        }
-    }
-    Ok(clippers)
 }
 
 // Adds the record of an object, if anything is seen of it.
@@ -182,12 +163,12 @@ fn climb(
             return Ok(*sight);
         }
         let Some(object) = ground.object(id) else {
-            return Ok(ground.bare());
+            return Ok(bare(ground));
         };
         ids.push(id)?;
         at = object.clipper.or(object.parent);
     }
-    Ok(ground.bare())
+    Ok(bare(ground))
 }
 
 // The sight of a way that is longer by the object of this id.
@@ -267,32 +248,14 @@ fn is_white(color: Pixel) -> bool
     color.a() == 255 && color.r() == 255 && color.g() == 255 && color.b() == 255
 }
 
-impl Ground<'_> {
-    // The object of an id.
-    fn object(&self, id: u64) -> Option<&Object>
-        requires { IsGround self.now }
-        ensures { option_copied result ≡ with_id (values self.now.objects.now) id }
-    {
-        self.roll.object(id)
-    }
-
-    // Whether the object of this id clips another.
-    fn clips(&self, id: u64) -> bool
-        requires { IsGround self.now }
-        ensures { result ≡ list_any (is_clipped_by id) (values self.now.objects.now) }
-    {
-        !self.clippers.is_empty() && self.clippers.contains(&id)
-    }
-
-    // The sight of a way without objects.
-    fn bare(&self) -> Sight
-        requires { IsGround self.now }
-        ensures { result ≡ bare (stage_on self.now) }
-    {
-        Sight {
-            area: Rect::at_origin(self.w, self.h),
-            shown: true,
-            tinted: None,
-        }
+// The sight of a way without objects.
+fn bare(ground: &Ground<'_>) -> Sight
+    requires { IsGround ground.now }
+    ensures { result ≡ bare (stage_on ground.now) }
+{
+    Sight {
+        area: Rect::at_origin(ground.w, ground.h),
+        shown: true,
+        tinted: None,
     }
 }

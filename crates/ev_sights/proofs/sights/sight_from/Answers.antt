@@ -1,7 +1,7 @@
 use Rattle.std.proofs.Common.{sym}
-use Rattle.ev_scene.specs.Sights.{stage_on}
-use Rattle.ev_scene.proofs.Sighting.{never_none, down_sight, down_climbed, more_sights}
-use Rattle.ev_scene.proofs.sights.sight_from.Goals as goal
+use Rattle.ev_sights.specs.Sights.{stage_on}
+use Rattle.ev_sights.proofs.Sighting.{never_none, down_sight, down_climbed, more_sights}
+use Rattle.ev_sights.proofs.sights.sight_from.Goals as goal
 
 pub loop-id-preserved-in_ok-insert : goal.loop-id-preserved-in_ok-insert
 loop-id-preserved-in_ok-insert c =

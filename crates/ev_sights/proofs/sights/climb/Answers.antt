@@ -1,9 +1,9 @@
 use Rattle.std.proofs.Common.{sym, ap, ◌∙◌}
 use Rattle.std.specs.Option.{option_and_then}
 use Rattle.ev_model.specs.Up.{with_id}
-use Rattle.ev_scene.specs.Sights.{stage_on}
-use Rattle.ev_scene.proofs.Sighting.{climb_known, climbed_bare, climb_leads, climb_ends, climb_fewer}
-use Rattle.ev_scene.proofs.sights.climb.Goals as goal
+use Rattle.ev_sights.specs.Sights.{stage_on}
+use Rattle.ev_sights.proofs.Sighting.{climb_known, climbed_bare, climb_leads, climb_ends, climb_fewer}
+use Rattle.ev_sights.proofs.sights.climb.Goals as goal
 
 pub returns-in-Some-get : goal.returns-in-Some-get
 returns-in-Some-get c = climb_known (stage_on c.args.ground.now) c.args.first c.loop-at.ids.items c.loop-at.at c.in-Some.id c.in-Some-get.sight.now c.in-Some.is c.loop-at.invariant.leads

@@ -1,9 +1,9 @@
 use Rattle.std.proofs.Common.{◌≡◌, false, sym, ◌∙◌}
 use Rattle.ev_model.specs.Up.{clips, is_smart}
-use Rattle.ev_scene.specs.Sights.{stage_on}
-use Rattle.ev_scene.proofs.Sighting.{some_left, none_left, look_seen, unseen_hidden, unseen_over, unseen_empty}
-use Rattle.ev_scene.proofs.sights.look.Goals.{else-object-via-then-object+then-sight+else-not-is_empty, else-object-via-then-object+else-sight, else-object-via-else-object}
-use Rattle.ev_scene.proofs.sights.look.Goals as goal
+use Rattle.ev_sights.specs.Sights.{stage_on}
+use Rattle.ev_sights.proofs.Sighting.{some_left, none_left, look_seen, unseen_hidden, unseen_over, unseen_empty}
+use Rattle.ev_sights.proofs.sights.look.Goals.{else-object-via-then-object+then-sight+else-not-is_empty, else-object-via-then-object+else-sight, else-object-via-else-object}
+use Rattle.ev_sights.proofs.sights.look.Goals as goal
 
 pub returns-then-not-is_empty-clause-look : goal.returns-then-not-is_empty-clause-look
 returns-then-not-is_empty-clause-look c =

@@ -1,6 +1,6 @@
 use Rattle.std.proofs.Common.{◌≡◌, length}
-use Rattle.ev_scene.specs.Sights.{way, Ends, tinted, stage_on}
-use Rattle.ev_scene.proofs.sights.tinted.Given as goal
+use Rattle.ev_sights.specs.Sights.{way, Ends, tinted, stage_on}
+use Rattle.ev_sights.proofs.sights.tinted.Given as goal
 
 -- what the rest of the way makes of the colour so far is what the whole way makes of the first colour
 abbrev pub invariant-loop-at : goal.invariant-loop-at

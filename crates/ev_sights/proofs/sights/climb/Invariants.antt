@@ -1,6 +1,6 @@
 use Rattle.std.proofs.Common.{length}
-use Rattle.ev_scene.specs.Sights.{way, Ends, Leads, stage_on}
-use Rattle.ev_scene.proofs.sights.climb.Given as goal
+use Rattle.ev_sights.specs.Sights.{way, Ends, Leads, stage_on}
+use Rattle.ev_sights.proofs.sights.climb.Given as goal
 
 -- the way leads through the ids so far, and goes on to its end
 abbrev pub invariant-loop-at : goal.invariant-loop-at

@@ -3,7 +3,7 @@ use Rattle.std.specs.List.{list_any}
 use Rattle.std.specs.HashSet.{contains}
 use Rattle.ev_model.specs.Stage.{values}
 use Rattle.ev_model.specs.Up.{is_clipped_by}
-use Rattle.ev_scene.proofs.sights.clippers.Given as goal
+use Rattle.ev_sights.proofs.ground.clippers.Given as goal
 
 -- who clips another is known, or clips one of the rest
 abbrev pub invariant-loop-state : goal.invariant-loop-state

@@ -1,20 +1,30 @@
--- What stands over the objects of a scene, as it is remembered while the scene is captured.
-use Rattle.std.specs.Prelude.{◌≡◌, ℕ, ◌<◌, ◌≤◌, Bool, true, ◌&&◌, ◌==◌, nat_eq, fold, if◌then◌else◌, List, [], ◌∷◌, length, Option, Some, None, option_and_then}
+-- What stands over the objects of a scene, as it is remembered while their records are made.
+use Rattle.std.specs.Prelude.{◌≡◌, ℕ, All, IsTrue, option_map, ◌<◌, ◌≤◌, Bool, true, ◌&&◌, ◌==◌, nat_eq, fold, if◌then◌else◌, List, [], ◌∷◌, length, Option, Some, None, option_and_then}
 use Rattle.std.specs.List.{list_all, list_any}
 use Rattle.std.specs.Option.{option_or}
 use Rattle.std.specs.HashMap.{HashMap, get}
 use Rattle.std.specs.HashSet.{HashSet, contains}
 use Rattle.ev_argb.specs.Argb.{Argb, tint}
+use Rattle.ev_state.specs.Held.{Held}
 use Rattle.ev_model.specs.Chain.{chain, ends}
 use Rattle.ev_model.specs.Stage.{Stage, values, canvas}
 use Rattle.ev_model.specs.Up.{with_id, next, up, cut, is_clipped_by}
 use Rattle.ev_model.specs.Look.{Look}
 use Rattle.ev_model.specs.declared.object.Object.{Object}
-use Rattle.ev_scene.specs.Ids.{of_id}
-use Rattle.ev_scene.specs.Board.{values_of}
-use Rattle.ev_scene.specs.declared.sights.Ground.{Ground}
-use Rattle.ev_scene.specs.declared.sights.Sight.{Sight}
-use Rattle.ev_scene.specs.declared.sights.Seen.{Seen}
+use Rattle.ev_slots.specs.Slots.{of_id}
+use Rattle.ev_sights.specs.declared.ground.Ground.{Ground}
+use Rattle.ev_sights.specs.declared.sights.Sight.{Sight}
+use Rattle.ev_sights.specs.declared.sights.Seen.{Seen}
+
+-- these are the objects whose states stand in the slots, by their ids
+abbrev pub HasObjects : List (Option (Held Object)) → List Object → Type 0
+HasObjects slots objects = (id : ℕ) → with_id objects id ≡ option_map (λ s. s.value) (of_id slots id)
+
+-- each way up comes to an end
+abbrev pub HaveEnds : List Object → Type 0
+HaveEnds objects = All (λ o. IsTrue (ends (length objects) (next objects) (next objects o))) objects
+
+-- ---- No public clause cites what follows.
 
 -- the id of what stands over an object
 abbrev pub over : Object → Option ℕ
@@ -88,7 +98,7 @@ pub record IsClimbed (s : Stage) (first : Option ℕ) (ids : List ℕ) (sight : 
 abbrev pub AreClippers : {S : Type 0} → List Object → HashSet ℕ S → Type 0
 AreClippers objects clippers = (id : ℕ) → contains nat_eq clippers id ≡ list_any (is_clipped_by id) objects
 
--- the scene that is captured
+-- the scene whose records are made
 abbrev pub stage_on : Ground → Stage
 stage_on ground = record { w = ground.w; h = ground.h; objects = values ground.objects.now }
 
@@ -96,7 +106,7 @@ stage_on ground = record { w = ground.w; h = ground.h; objects = values ground.o
 pub record IsGround (ground : Ground) : Type 0 where
   pub width : ground.w ≤ 4096
   pub height : ground.h ≤ 4096
-  pub found : (id : ℕ) → with_id (values ground.objects.now) id ≡ of_id (values_of ground.roll.now.states) id
+  pub found : HasObjects ground.slots.now.slots (values ground.objects.now)
   pub clippers : AreClippers (values ground.objects.now) ground.clippers
 
 -- what is seen of an object, as a look

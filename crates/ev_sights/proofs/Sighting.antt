@@ -1,11 +1,13 @@
 -- The way up of an object, and what its objects leave to those below.
-use Rattle.std.proofs.Common.{◌≡◌, ◌⊎◌, ◌↔◌, ℕ, zero, suc, ◌+◌, ◌<◌, ℤ, pos, ◌≤ℤ◌, int_lt, Bool, true, false, ◌&&◌, nat_eq, All, if◌then◌else◌, List, [], ◌∷◌, ◌++◌, length, fold, get_or, Option, Some, None, refl, sym, ap, ap₂, ◌∙◌, subst, inl, inr, arith}
+use Rattle.std.proofs.Common.{◌≡◌, ◌⊎◌, ◌↔◌, ℕ, zero, suc, ◌+◌, ◌<◌, ◌≤◌, ℤ, pos, ◌≤ℤ◌, int_lt, Bool, true, false, ◌&&◌, nat_eq, All, if◌then◌else◌, List, [], ◌∷◌, ◌++◌, length, fold, get_or, drop, filter_map, append_assoc, Option, Some, None, refl, sym, ap, ap₂, ◌∙◌, subst, inl, inr, arith}
 use Rattle.std.proofs.Math.Bool.{true≢false}
 use Rattle.std.proofs.lemmas.Bool.{and_parts, and_right, eqb-true}
 use Rattle.std.proofs.lemmas.Int.{ints}
 use Rattle.std.specs.Prelude.{IsTrue}
-use Rattle.std.specs.List.{list_all}
-use Rattle.std.specs.Option.{option_and_then}
+use Rattle.std.specs.List.{list_all, cons_option}
+use Rattle.std.proofs.lemmas.List.{drop_all, append-nil}
+use Rattle.std.proofs.Math.Seq.{drop-cons}
+use Rattle.std.specs.Option.{option_and_then, option_to_list}
 use Rattle.std.specs.HashMap.{HashMap}
 use Rattle.std.specs.HashMap as hash
 use Rattle.std.proofs.lemmas.Option.{none-some, same_Some}
@@ -21,14 +23,17 @@ use Rattle.ev_model.specs.Look.{Look, has_pixels, look}
 use Rattle.ev_model.proofs.Chains.{chain_whole}
 use Rattle.ev_model.proofs.Meets.{meet_sides}
 use Rattle.ev_model.specs.declared.object.Object.{Object}
-use Rattle.ev_scene.specs.declared.sights.Sight.{Sight}
-use Rattle.ev_scene.specs.Sights.{over, way, Ends, tinted, is_white, IsColor, TintsAs, IsSight, bare, lowered, AreSights, IsStep, Leads, IsClimbed}
-use Rattle.ev_scene.proofs.Ways as ways
-use Rattle.ev_scene.proofs.Meeting.{cut_last}
+use Rattle.ev_sights.specs.declared.sights.Sight.{Sight}
+use Rattle.ev_sights.specs.Sights.{over, way, Ends, tinted, is_white, IsColor, TintsAs, IsSight, bare, lowered, AreSights, IsStep, Leads, IsClimbed}
+use Rattle.ev_sights.proofs.Meeting.{cut_last}
 
 chain_none : {A : Type 0} (n : ℕ) (next : A → Option A) → chain n next None ≡ []
 chain_none zero next = refl
 chain_none (suc n) next = refl
+
+ends_none : {A : Type 0} (n : ℕ) (next : A → Option A) → ends n next None ≡ true
+ends_none zero next = refl
+ends_none (suc n) next = refl
 
 ends_more : {A : Type 0} (n : ℕ) (next : A → Option A) (a : Option A) → ends n next a ≡ true → ends (suc n) next a ≡ true
 ends_more zero next None h = refl
@@ -80,7 +85,7 @@ no_way objects at none = ap (chain (length objects) (next objects)) none ∙ cha
 
 tints_none : (objects : List Object) (at : Option ℕ) → way objects at ≡ [] → TintsAs objects at None
 tints_none objects at none = record {
-  ends = ways.ends_none (length objects) (next objects);
+  ends = ends_none (length objects) (next objects);
   shorter = let e : length (way objects None) ≡ 0 = ap length (chain_none (length objects) (next objects)) in omega (arith, e);
   color = λ c is. ap (tinted c) (none ∙ sym (chain_none (length objects) (next objects)));
 }
@@ -272,3 +277,23 @@ of_item P objects items i item same h is all =
     let Q : Held Object → Type 0 = λ s. P s.value in
     let R : List (Held Object) → Type 0 = λ items. All Q items in
     subst Q (sym is) (All-get_or Q items i item h (subst R (sym same) (of_items P objects all)))
+
+-- one more of what is there
+one_more : {A : Type 0} (so_far now rest all : List A) (x : Option A) → now ≡ so_far ++ option_to_list x → so_far ++ cons_option x rest ≡ all → now ++ rest ≡ all
+one_more so_far now rest all None e f = ap (λ xs. xs ++ rest) e ∙ append_assoc so_far [] rest ∙ f
+one_more so_far now rest all (Some x) e f = ap (λ xs. xs ++ rest) e ∙ append_assoc so_far (x ∷ []) rest ∙ f
+
+-- what is seen of one more object of a list
+pub one_more_seen : {B : Type 0} (see : Object → Option B) (items : List (Held Object)) (i : ℕ) (item : Held Object) (so_far now all : List B) → i < length items → item ≡ get_or items i item
+    → now ≡ so_far ++ option_to_list (see item.value) → so_far ++ filter_map see (values (drop i items)) ≡ all → now ++ filter_map see (values (drop (i + 1) items)) ≡ all
+one_more_seen see items i item so_far now all h is e f =
+    let next : drop i items ≡ item ∷ drop (suc i) items = drop-cons items i item h ∙ ap (λ x. x ∷ drop (suc i) items) (sym is) in
+    let k : i + 1 ≡ suc i = omega arith in
+    one_more so_far now (filter_map see (values (drop (i + 1) items))) all (see item.value) e
+    (ap (λ k. so_far ++ cons_option (see item.value) (filter_map see (values (drop k items)))) k ∙ sym (ap (λ rest. so_far ++ filter_map see (values rest)) next) ∙ f)
+
+-- all objects of the list were seen
+pub all_seen : {B : Type 0} (see : Object → Option B) (items objects : List (Held Object)) (i : ℕ) (so_far : List B) → length items ≤ i → items ≡ objects → so_far ++ filter_map see (values (drop i items)) ≡ filter_map see (values items)
+    → so_far ≡ filter_map see (values objects)
+all_seen see items objects i so_far past same e =
+    sym (append-nil so_far) ∙ ap (λ rest. so_far ++ filter_map see (values rest)) (sym (drop_all i items past)) ∙ e ∙ ap (λ items. filter_map see (values items)) same

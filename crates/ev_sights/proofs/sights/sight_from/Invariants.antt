@@ -1,6 +1,6 @@
 use Rattle.std.proofs.Common.{length}
-use Rattle.ev_scene.specs.Sights.{AreSights, IsClimbed, stage_on}
-use Rattle.ev_scene.proofs.sights.sight_from.Given as goal
+use Rattle.ev_sights.specs.Sights.{AreSights, IsClimbed, stage_on}
+use Rattle.ev_sights.proofs.sights.sight_from.Given as goal
 
 -- the sight is that from where the ids that are left lead
 abbrev pub invariant-loop-id : goal.invariant-loop-id

@@ -1,0 +1,4 @@
+pub mod Meeting
+pub mod Sighting
+pub mod Bounding
+pub mod Alone
