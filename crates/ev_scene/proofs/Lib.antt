@@ -24,4 +24,4 @@ pub mod Verdicts
 pub mod Rehoming
 pub mod Loading
 pub mod Giving
-pub mod Bounding
+pub mod Seeing

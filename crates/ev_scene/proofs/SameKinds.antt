@@ -1,7 +1,7 @@
 -- An edit that deletes nothing leaves each object there, and of its kind.
-use Rattle.std.proofs.Common.{◌≡◌, ℕ, suc, ◌+◌, ◌-ℤ◌, ℤ, ◌==◌, arith, List, [], ◌∷◌, Bool, true, false, cond, find, if◌then◌else◌, Option, Some, None, Result, Ok, Err, length, refl, ap, subst, sym, ◌∙◌, inl, inr}
+use Rattle.std.proofs.Common.{◌≡◌, ℕ, suc, ◌+◌, ◌-ℤ◌, ℤ, ◌==◌, arith, List, [], ◌∷◌, Bool, true, false, cond, find, if◌then◌else◌, Option, Some, None, Result, Ok, Err, is_some, length, refl, ap, subst, sym, ◌∙◌, inl, inr}
 use Rattle.std.specs.Prelude.{nat_eq}
-use Rattle.std.specs.Option.{option_map, option_map_or, option_eq}
+use Rattle.std.specs.Option.{option_map, option_map_or, option_and_then, option_eq}
 use Rattle.std.proofs.lemmas.Bool.Decides.{eqb_tells}
 use Rattle.std.proofs.lemmas.Option.{none-some}
 use Rattle.std.proofs.Math.Bool.{true≢false}
@@ -18,13 +18,14 @@ use Rattle.ev_scene.specs.Ids.{of_id, put, live}
 use Rattle.ev_scene.specs.Board.{Board, Kept, board, named, inside, is_named}
 use Rattle.ev_scene.specs.Cast.{IsCast, kept_of, board_of}
 use Rattle.ev_scene.specs.Change.{apply, fresh, color_of, fill_of, border_of}
-use Rattle.ev_scene.specs.Edits.{Edits, effect, with_named, changed, shifted_by, shifted_all, moved, made, next_id, homed, rehomed}
-use Rattle.ev_scene.specs.Kinds.{kind_at, KeepsKinds, is_delete}
+use Rattle.ev_scene.specs.Edits.{Edits, effect, with_named, left, deleted, changed, shifted_by, shifted_all, moved, made, next_id, homed, rehomed}
+use Rattle.ev_scene.specs.Kinds.{kind_at, KeepsKinds, LeavesKinds, is_delete}
 use Rattle.ev_scene.specs.declared.cast.Cast.{Cast}
 use Rattle.ev_scene.specs.declared.change.Change.{Change}
 use Rattle.ev_scene.specs.declared.change.Change.TheVariants as change
 use Rattle.ev_scene.specs.declared.image_change.ImageChange.TheVariants as image_change
 use Rattle.ev_scene.specs.declared.text_change.TextChange.TheVariants as text_change
+use Rattle.ev_scene.proofs.Deleting.{of_id_each}
 use Rattle.ev_scene.proofs.Places.{at_place, of_id_suc, of_id_put, of_id_end, of_id_map, past_end}
 use Rattle.ev_scene.proofs.Standing.{image_change_kind, text_change_kind}
 
@@ -127,6 +128,27 @@ module _ (scene : Board) (own : (name : List ℕ) (o : Object) → named scene.o
   keeps_effect (edit.Border name l r t b) other = keeps_one (change.Image (image_change.Border (border_of l r t b))) name
   keeps_effect (edit.Center name on) other = keeps_one (change.Image (image_change.Center on)) name
 
+  leaves_effect : (e : Edit) → LeavesKinds scene (effect scene e)
+  leaves_effect (edit.Delete name) = go (named scene.objects name) where
+    left_kind : (ids : List ℕ) (x : Option Object) (kind : Kind) → kind_in x ≡ Some kind → is_some (option_and_then (left ids) x) ≡ true → kind_in (option_and_then (left ids) x) ≡ Some kind
+    left_kind ids None kind is stays = absurd (none-some kind is)
+    left_kind ids (Some o) kind is stays = one (has ids o.id) (option_map_or (has ids) o.clipper false) stays where
+      one : (b d : Bool) → is_some (cond b None (Some (cond d (record o { clipper = None }) o))) ≡ true → kind_in (cond b None (Some (cond d (record o { clipper = None }) o))) ≡ Some kind
+      one true d stays = absurd (true≢false (sym stays))
+      one false true stays = is
+      one false false stays = is
+
+    go : (x : Option Object) → LeavesKinds scene (option_map_or (λ o. deleted scene o.id o.parent) x scene)
+    go None id kind is stays = is
+    go (Some o) id kind is stays =
+        let each = of_id_each (left (inside scene o.id)) scene.objects id in
+        ap kind_in each ∙ left_kind (inside scene o.id) (of_id scene.objects id) kind is (ap is_some (sym each) ∙ stays)
+  leaves_effect other = λ id kind is stays. keeps_effect other refl id kind is
+
+  pub leaves_edit : {T : Type 0} (new : Board) (e : Edit) (result : Result T Refusal) → Edits scene e result new → LeavesKinds scene new
+  leaves_edit new e (Ok done) edits = subst (λ new. LeavesKinds scene new) (sym edits.1) (leaves_effect e)
+  leaves_edit new e (Err cause) edits = subst (λ new. LeavesKinds scene new) (sym edits.1) (λ id kind is stays. is)
+
   pub keeps_edit : {T : Type 0} (new : Board) (e : Edit) (result : Result T Refusal) → Edits scene e result new → is_delete e ≡ false → KeepsKinds scene new
   keeps_edit new e (Ok done) edits other = subst (λ new. KeepsKinds scene new) (sym edits.1) (keeps_effect e other)
   keeps_edit new e (Err cause) edits other = subst (λ new. KeepsKinds scene new) (sym edits.1) (λ id kind is. is)
@@ -135,3 +157,7 @@ module _ (scene : Board) (own : (name : List ℕ) (o : Object) → named scene.o
 pub edit_keeps : {T : Type 0} (old : Cast) (kept : Kept) → kept_of old ≡ kept → IsCast old → (new : Board) (e : Edit) (result : Result T Refusal) → Edits (board_of old) e result new → is_delete e ≡ false → KeepsKinds (board kept) new
 edit_keeps old kept is whole new e result edits other =
     subst (λ kept. KeepsKinds (board kept) new) is (keeps_edit (board_of old) (named_own (board_of old).objects whole.own) new e result edits other)
+
+pub edit_leaves : {T : Type 0} (old : Cast) (kept : Kept) → kept_of old ≡ kept → IsCast old → (new : Board) (e : Edit) (result : Result T Refusal) → Edits (board_of old) e result new → LeavesKinds (board kept) new
+edit_leaves old kept is whole new e result edits =
+    subst (λ kept. LeavesKinds (board kept) new) is (leaves_edit (board_of old) (named_own (board_of old).objects whole.own) new e result edits)

@@ -6,7 +6,7 @@ ghost use Rattle.ev_model.specs.Limits.{IsEdit};
 ghost use Rattle.ev_scene.specs.Ids.{of_id, put};
 ghost use Rattle.ev_scene.specs.Board.{board, named, MakesAtMost};
 ghost use Rattle.ev_scene.specs.Edits.{Edits, IsLeft, writes};
-ghost use Rattle.ev_scene.specs.Kinds.{KeepsKinds, is_delete};
+ghost use Rattle.ev_scene.specs.Kinds.{KeepsKinds, LeavesKinds, is_delete};
 ghost use Rattle.ev_scene.specs.ObjectLoads.{key_of, with_image, with_font};
 
 use crate::NoMemory;
@@ -87,6 +87,7 @@ impl SceneBox {
         requires text { IsEdit edit.now }
         ensures edits { Edits (board self.old) edit.now result (board self.new) }
         ensures refused { IfErr result (λ cause. IsLeft self.old cause self.new) }
+        ensures leaves { LeavesKinds (board self.old) (board self.new) }
         ensures keeps { is_delete edit.now ≡ false → KeepsKinds (board self.old) (board self.new) }
         ensures made { MakesAtMost (writes (board self.old) edit.now) self.old.made self.new.made }
     {

@@ -3,7 +3,7 @@ use Rattle.ev_preload.specs.Loads.{Loads}
 use Rattle.ev_preload.specs.declared.preload.Preload.{Preload}
 use Rattle.ev_scene.specs.Board.{Board, board}
 use Rattle.ev_canvas.specs.Loading.{HaveObjects, kept, gone}
-use Rattle.ev_canvas.proofs.Keeping.{all_kept, live_deleted}
+use Rattle.ev_canvas.proofs.Keeping.{all_kept, live_kept}
 use Rattle.ev_canvas.proofs.edit.delete.Goals as goal
 
 pub returns-in_err-edit-clause-loads : goal.returns-in_err-edit-clause-loads
@@ -16,4 +16,4 @@ returns-in_err-edit-clause-events c = c.requires.taken
 
 pub returns-clause-live : goal.returns-clause-live
 returns-clause-live c = subst (λ (l : Loads). HaveObjects (board c.edit.new.self) l.running) (sym c.sweep.ensures.loads)
-    (live_deleted (board c.args.scene.now) (board c.edit.new.self) c.args.name.now c.edit.result c.args.preloads.now.running c.edit.ensures.edits c.requires.live)
+    (live_kept (board c.args.scene.now) (board c.edit.new.self) c.args.preloads.now.running c.edit.ensures.leaves c.requires.live)
