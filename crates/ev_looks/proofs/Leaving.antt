@@ -1,25 +1,26 @@
 -- What is left to an object by all that stands over it.
-use Rattle.std.proofs.Common.{◌≡◌, ℕ, zero, suc, Bool, true, false, not, ◌&&◌, ◌==◌, if◌then◌else◌, fold, List, [], ◌∷◌, length, map, Option, Some, None, option_map, refl, sym, ap, ap₂, ◌∙◌, subst}
-use Rattle.std.specs.List.{list_all, find}
-use Rattle.std.specs.Option.{option_and_then, option_or}
+use Rattle.std.proofs.Common.{◌≡◌, ℕ, zero, suc, Bool, true, false, not, ◌&&◌, ◌==◌, if◌then◌else◌, fold, List, [], ◌∷◌, length, map, Option, Some, None, option_map, refl, sym, ap, ap₂, ◌∙◌}
+use Rattle.std.specs.List.{list_all}
+use Rattle.std.specs.Option.{option_and_then}
 use Rattle.std.proofs.Math.Bool.{true≢false}
 use Rattle.std.proofs.lemmas.Bool.{eqb-true}
 use Rattle.std.proofs.lemmas.Option.{none-some, same_Some}
-use Rattle.ev_argb.specs.Argb.{Argb, tint}
+use Rattle.ev_argb.specs.Argb.{tint}
 use Rattle.ev_geom.specs.Area.{Area, meet}
 use Rattle.ev_model.specs.Chain.{chain, ends}
-use Rattle.ev_model.specs.Look.{Look, has_pixels, look}
+use Rattle.ev_model.specs.Look.{has_pixels, look}
 use Rattle.ev_model.specs.Stage.{Stage, canvas, canvas_on}
-use Rattle.ev_model.specs.Up.{with_id, next, over_it, up, cut, is_smart, clips, clip, colour, is_drawn}
+use Rattle.ev_model.specs.Up.{with_id, next, over_it, up, cut, is_smart, clip, colour, is_drawn}
 use Rattle.ev_model.specs.declared.object.Object.{Object}
-use Rattle.ev_looks.specs.Reached.{Left, left_by, LeaveSame, HasEnd, IsUnreached}
+use Rattle.ev_looks.specs.Reached.{Left, left_by, LeaveSame, IsUnreached}
 
-chain_none : {A : Type 0} (n : ℕ) (next : A → Option A) → chain n next None ≡ []
+-- nothing comes after nothing
+pub chain_none : {A : Type 0} (n : ℕ) (next : A → Option A) → chain n next None ≡ []
 chain_none zero next = refl
 chain_none (suc n) next = refl
 
 -- an object that is found has the id
-own_id : (objects : List Object) (id : ℕ) (u : Object) → with_id objects id ≡ Some u → u.id ≡ id
+pub own_id : (objects : List Object) (id : ℕ) (u : Object) → with_id objects id ≡ Some u → u.id ≡ id
 own_id [] id u found = absurd (none-some u found)
 own_id (o ∷ objects) id u found = go (o.id == id) refl found (own_id objects id u) where
   go : (b : Bool) → (o.id == id) ≡ b → (if b then Some o else with_id objects id) ≡ Some u → (with_id objects id ≡ Some u → u.id ≡ id) → u.id ≡ id

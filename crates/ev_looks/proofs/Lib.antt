@@ -1,2 +1,11 @@
 pub mod Leaving
 pub mod Seating
+pub mod Placing
+pub mod Ending
+pub mod Climbing
+pub mod Clipping
+pub mod Bounding
+pub mod Looking
+pub mod Refreshing
+pub mod Keeping
+pub mod Reaching

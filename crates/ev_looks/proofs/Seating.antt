@@ -1,5 +1,5 @@
 -- Looks stay in the places of their ids.
-use Rattle.std.proofs.Common.{◌≡◌, ◌≢◌, ◌⊎◌, ℕ, zero, suc, ◌+◌, ◌-◌, Bool, true, false, ◌≤◌, ◌<◌, ◌==◌, if◌then◌else◌, is_some, List, [], ◌∷◌, ◌++◌, length, map, get_or, slice_set, Option, Some, None, inl, inr, refl, sym, ap, ◌∙◌, subst, arith}
+use Rattle.std.proofs.Common.{◌≡◌, ◌≢◌, ◌⊎◌, ℕ, zero, suc, ◌+◌, Bool, true, false, ◌≤◌, ◌<◌, ◌==◌, if◌then◌else◌, is_some, List, [], ◌∷◌, ◌++◌, length, map, Option, Some, None, inl, inr, refl, sym, ap, ◌∙◌, subst, arith}
 use Rattle.std.proofs.Math.Bool.{true≢false}
 use Rattle.std.proofs.lemmas.Bool.Decides.{eqb_tells}
 use Rattle.std.proofs.lemmas.List.{get_or-set_other, get_or-set_same}
@@ -44,13 +44,15 @@ still_seated old new all laws laws' keeps are = record {
       let here = are.seated place l shows (laws.there q l.id before) in
       subst (λ p. seat new.seats p ≡ Some l.id) (sym (laws.one place q l.id here before)) sits
 
-showing_added : (all : List Showing) (i : ℕ) → showing (all ++ nothing ∷ []) i ≡ showing all i
+-- one more place shows nothing
+pub showing_added : (all : List Showing) (i : ℕ) → showing (all ++ nothing ∷ []) i ≡ showing all i
 showing_added [] zero = refl
 showing_added [] (suc i) = refl
 showing_added (one ∷ all) zero = refl
 showing_added (one ∷ all) (suc i) = showing_added all i
 
-now_of : (all : List Showing) (i : ℕ) (m : Look) → Shows (showing (map settled all) i) m → (showing all i).now ≡ Some m
+-- what is shown once it counts as shown before was shown now
+pub now_of : (all : List Showing) (i : ℕ) (m : Look) → Shows (showing (map settled all) i) m → (showing all i).now ≡ Some m
 now_of [] i m (inl was) = absurd (none-some m was)
 now_of [] i m (inr now) = absurd (none-some m now)
 now_of (one ∷ all) zero m (inl was) = was

@@ -15,6 +15,10 @@ pub record Tracks (T : Type 0) : Type 0 where
   pub was : List (Option (Held T))
 
 module _ {T : Type 0} where
+  -- the states alone, without what stood in their places
+  abbrev pub slots_in : Tracks T → Slots (Held T)
+  slots_in t = record { slots = t.slots; seats = t.seats; places = t.places; room = t.room }
+
   -- what stands in a place
   abbrev pub state_in : List (Option (Held T)) → List (Option ℕ) → ℕ → Option (Held T)
   state_in slots seats place = option_and_then (of_id slots) (seat seats place)

@@ -4,7 +4,7 @@ ghost use Rattle.std.specs.Option.{option_copied_mut};
 ghost use Rattle.std.specs.Borrow.{sem};
 ghost use Rattle.ev_slots.specs.Slots.{of_id, put, live, seat};
 ghost use Rattle.ev_slots.specs.Seats.{SitsDown, StandsUp, HavePlaces};
-ghost use Rattle.ev_track.specs.Tracks.{now_in, was_in, FindsChange};
+ghost use Rattle.ev_track.specs.Tracks.{slots_in, now_in, was_in, FindsChange};
 ghost use Rattle.ev_track.specs.LendsTracked.{LendsTracked};
 
 use crate::NoMemory;
@@ -89,6 +89,14 @@ impl<T: Drop> Tracked<T> {
         ensures { result ≡ seat self.now.seats place }
     {
         self.slots.id_in(place)
+    }
+
+    /// Each id whose state is there sits in a place of its own, and no other id sits anywhere. It
+    /// changes nothing.
+    pub fn laws(&self)
+        ensures { HavePlaces (slots_in self.now) }
+    {
+        self.slots.laws();
     }
 
     /// The state that stood in a place when the changes were last settled.
