@@ -6,7 +6,7 @@ set -eu
 top="$(cd "$(dirname "$0")/.." && pwd)"
 . "$top/bench/crates.sh"
 folder_for_run "$@"
-copy_crates ev_argb ev_geom ev_state ev_model ev_slots ev_stack ev_links ev_groups ev_scene
+copy_crates ev_argb ev_geom ev_state ev_model ev_slots ev_stack ev_links ev_sights ev_groups ev_scene
 crate="$made/crates/bench_memory"
 mkdir -p "$crate/src"
 echo 'bench_memory: ev_model ev_scene anyhow' >>"$made/crates.txt"

@@ -7,7 +7,7 @@ set -eu
 top="$(cd "$(dirname "$0")/.." && pwd)"
 . "$top/bench/crates.sh"
 folder_for_run "$@"
-copy_crates ev_argb ev_geom ev_region ev_state ev_model ev_slots ev_stack ev_links ev_groups ev_scene ev_fill ev_text ev_areas \
+copy_crates ev_argb ev_geom ev_region ev_state ev_model ev_slots ev_stack ev_links ev_sights ev_groups ev_scene ev_fill ev_text ev_areas \
     ev_cmds ev_draw
 echo 'bench_pictures: ev_argb ev_geom ev_region ev_model ev_scene ev_cmds ev_draw anyhow' >>"$made/crates.txt"
 crate="$made/crates/bench_pictures"
