@@ -2,7 +2,6 @@ pub mod Regions
 pub mod Owing
 mod Drawing
 pub mod Starting
-pub mod Adding
 pub mod Loading
 pub mod Sweeping
 pub mod Keeping

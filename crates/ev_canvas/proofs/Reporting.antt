@@ -1,6 +1,6 @@
 -- Each pixel in which a frame differs from the one shown before lies in its updates.
-use Rattle.std.proofs.Common.{◌≡◌, ℕ, ◌<◌, pos, Bool, true, false, not, ◌&&◌, ◌||◌, List, [], ◌∷◌, ◌++◌, Option, Some, None, IfSome, refl, sym, ap, subst, ◌∙◌, arith}
-use Rattle.std.proofs.Math.Bool.{true≢false}
+use Rattle.std.proofs.Common.{◌≡◌, ℕ, ◌<◌, pos, Bool, true, false, not, ◌&&◌, ◌||◌, List, [], ◌∷◌, Option, IfSome, refl, sym, ap, subst, ◌∙◌, arith}
+use Rattle.std.proofs.Math.Bool.{true≢false, and-true}
 use Rattle.std.proofs.lemmas.Bool.Decides.{nat_tests}
 use Rattle.std.proofs.lemmas.Int.{ints}
 use Rattle.ev_geom.specs.Area.{Area, holds}
@@ -16,18 +16,13 @@ use Rattle.ev_damage.proofs.Painting.{still}
 use Rattle.std.proofs.lemmas.Bool.{false_from_ne_true, true_from_ne_false}
 use Rattle.ev_preload.proofs.Running.{or_first, or_last}
 use Rattle.ev_canvas.specs.Starts.{Entry, Latest, Starts, OwesIf, OwesOn, left, is_running, is_shown, has_size_of, touched}
-use Rattle.ev_canvas.specs.History.{newest_of, AreStarts, AreComparable, Showing, frame_pixel, IsShowing, ShowsLast, Shows, Reports, AreReportedAfter, AreReported}
+use Rattle.ev_canvas.specs.History.{newest_of, AreStarts, AreComparable, Showing, frame_pixel, IsShowing, ShowsFirst, Shows, Reports, AreReported}
 use Rattle.ev_canvas.specs.declared.newest.End.{End}
 use Rattle.ev_canvas.specs.declared.newest.End.TheVariants as end
 
 -- a pixel of a canvas lies on it
 on_canvas : (s : Capture) (x y : ℕ) → x < s.w → y < s.h → holds (canvas_on s.w s.h) (pos x) (pos y) ≡ true
 on_canvas s x y column row = grind (arith, ints)
-
--- what fails with a test that passes fails by itself
-front_fails : (a b : Bool) → (a && b) ≡ false → b ≡ true → a ≡ false
-front_fails false b e passes = refl
-front_fails true b e passes = absurd (true≢false (sym passes ∙ e))
 
 -- what a frame left, or may still leave: all that it owed and what was hidden, unless it was shown
 abbrev unsettled : Latest → ℕ → ℕ → Bool
@@ -60,7 +55,8 @@ unowed_on cell before now given owed x y column row own_before own_now loads wid
     let uncelled = or_first (has_pixel owes.cells (pos x) (pos y)) (left before (pos x) (pos y)) none in
     let untouched_here = untouched cell before.entry.capture now given owes.cells x y column row owes.snapped.whole uncelled in
     let changed = is_damaged before.entry.capture.looks now.looks (pos x) (pos y) in
-    let undamaged = or_first changed (has_pixel given (pos x) (pos y)) (front_fails (changed || has_pixel given (pos x) (pos y)) (holds (canvas_on now.w now.h) (pos x) (pos y)) untouched_here (on_canvas now x y column row)) in
+    let touched_there = changed || has_pixel given (pos x) (pos y) in
+    let undamaged = or_first changed (has_pixel given (pos x) (pos y)) (sym (and-true touched_there) ∙ ap (λ b. touched_there && b) (sym (on_canvas now x y column row)) ∙ untouched_here) in
     record {
       width = width;
       height = height;
@@ -80,59 +76,32 @@ abbrev IsCurrent : Showing → Latest → Type 0
 IsCurrent showing latest = showing.frame.w ≡ latest.entry.capture.w → showing.frame.h ≡ latest.entry.capture.h
     → (x y : ℕ) → x < latest.entry.capture.w → y < latest.entry.capture.h → unsettled latest x y ≡ false → frame_pixel showing.frame x y ≡ paint latest.entry.capture x y
 
-abbrev last_of : List Showing → Option Showing
-last_of [] = None
-last_of (showing ∷ []) = Some showing
-last_of (showing ∷ (next ∷ showings)) = last_of (next ∷ showings)
-
 abbrev AreCurrent : List Latest → List Showing → Type 0
-AreCurrent starts showings = IfSome (last_of showings) (λ showing. IfSome (newest_of starts) (λ latest. IsCurrent showing latest))
+AreCurrent starts [] = Unit {0}
+AreCurrent starts (showing ∷ earlier) = IfSome (newest_of starts) (λ latest. IsCurrent showing latest)
 
 -- what the frame shown last shows where nothing is owed
-shows_still : (cell : ℕ) (latest : Latest) (older : List Latest) (given areas : List Area) (showings : List Showing) (showing : Showing) → Starts cell (newest_of older) latest.entry.capture given areas latest.entry → IfSome (newest_of older) (λ before. is_running before.end ≡ false) → HaveOwnIds latest.entry.capture.looks → IfSome (newest_of older) (λ before. HaveOneLoad before.entry.capture.looks latest.entry.capture.looks) → AreComparable older → AreCurrent older showings → last_of showings ≡ Some showing → (Shows older showings) → showing.frame.w ≡ latest.entry.capture.w → showing.frame.h ≡ latest.entry.capture.h → (x y : ℕ) → x < latest.entry.capture.w → y < latest.entry.capture.h → has_pixel latest.entry.owed (pos x) (pos y) ≡ false → frame_pixel showing.frame x y ≡ paint latest.entry.capture x y
-shows_still cell latest [] given areas showings showing starts ended own loads comparable current is shows width height x y column row unowed =
+shows_still : (cell : ℕ) (latest : Latest) (older : List Latest) (given areas : List Area) (showing : Showing) (earlier : List Showing) → Starts cell (newest_of older) latest.entry.capture given areas latest.entry → IfSome (newest_of older) (λ before. is_running before.end ≡ false) → HaveOwnIds latest.entry.capture.looks → IfSome (newest_of older) (λ before. HaveOneLoad before.entry.capture.looks latest.entry.capture.looks) → AreComparable older → AreCurrent older (showing ∷ earlier) → showing.frame.w ≡ latest.entry.capture.w → showing.frame.h ≡ latest.entry.capture.h → (x y : ℕ) → x < latest.entry.capture.w → y < latest.entry.capture.h → has_pixel latest.entry.owed (pos x) (pos y) ≡ false → frame_pixel showing.frame x y ≡ paint latest.entry.capture x y
+shows_still cell latest [] given areas showing earlier starts ended own loads comparable current width height x y column row unowed =
     absurd (true≢false (sym (on_canvas latest.entry.capture x y column row) ∙ sym (starts.owed.pixels (pos x) (pos y)) ∙ unowed))
-shows_still cell latest (before ∷ older) given areas showings showing starts ended own loads comparable current is shows width height x y column row unowed =
+shows_still cell latest (before ∷ older) given areas showing earlier starts ended own loads comparable current width height x y column row unowed =
     let settled_here = unowed_if (has_size_of before.entry.capture latest.entry.capture) cell before latest.entry.capture given latest.entry.owed x y refl column row comparable.0 own loads starts.owed unowed in
-    let kept : IsCurrent showing before = subst (λ o. IfSome o (λ s. IsCurrent s before)) is current in
-    kept (width ∙ sym settled_here.width) (height ∙ sym settled_here.height) x y (omega (arith, column, settled_here.width)) (omega (arith, row, settled_here.height)) (sym (settled before x y ended) ∙ settled_here.unleft) ∙ settled_here.same
-
--- the last of a list and one more
-last_more : (earlier : List Showing) (last : Showing) → last_of (earlier ++ last ∷ []) ≡ Some last
-last_more [] last = refl
-last_more (first ∷ []) last = refl
-last_more (first ∷ (next ∷ earlier)) last = last_more (next ∷ earlier) last
-
-if_some : (o : Option Showing) (P : Showing → Type 0) → ((s : Showing) → o ≡ Some s → P s) → IfSome o P
-if_some None P holds = tt
-if_some (Some s) P holds = holds s refl
-
-by_not : (b o : Bool) → b ≡ false → (not b && o) ≡ false → o ≡ false
-by_not false o e fails = fails
-by_not true o e fails = absurd (true≢false e)
+    current (width ∙ sym settled_here.width) (height ∙ sym settled_here.height) x y (omega (arith, column, settled_here.width)) (omega (arith, row, settled_here.height)) (sym (settled before x y ended) ∙ settled_here.unleft) ∙ settled_here.same
 
 -- the frame shown last is current
 current : (cell : ℕ) (starts : List Latest) (showings : List Showing) → AreStarts cell starts → AreComparable starts → Shows starts showings → AreCurrent starts showings
-current cell [] showings chain comparable shows = if_some (last_of showings) (λ showing. Unit {0}) (λ s is. tt)
-current cell (latest ∷ older) showings (given, areas, starts, ended, chain) (own, loads, comparable) shows = by (is_shown latest.end) refl shows (λ earlier. current cell older earlier chain comparable)
+current cell [] [] chain comparable shows = tt
+current cell [] (showing ∷ showings) chain comparable shows = tt
+current cell (latest ∷ older) showings (given, areas, starts, ended, chain) (own, loads, comparable) shows = by (is_shown latest.end) refl showings shows (λ earlier. current cell older earlier chain comparable)
   where
-    by : (b : Bool) → is_shown latest.end ≡ b → ShowsLast b latest.entry (Shows older) showings → ((earlier : List Showing) → Shows older earlier → AreCurrent older earlier) → AreCurrent (latest ∷ older) showings
-    by true shown (earlier, last, before, showing, is) earlier_is =
+    by : (b : Bool) → is_shown latest.end ≡ b → (showings : List Showing) → ShowsFirst b latest.entry (Shows older) showings → ((earlier : List Showing) → Shows older earlier → AreCurrent older earlier) → AreCurrent (latest ∷ older) showings
+    by true shown showings (last, earlier, before, showing, is) earlier_is =
         let here : IsCurrent last latest = λ width height x y column row none. showing.pixels x y column row (or_last (not (is_shown latest.end) && has_pixel latest.entry.owed (pos x) (pos y)) (has_pixel latest.entry.hidden (pos x) (pos y)) none) in
-        subst (λ list. AreCurrent (latest ∷ older) list) (sym is) (subst (λ o. IfSome o (λ s. IsCurrent s latest)) (sym (last_more earlier last)) here)
-    by false unshown before earlier_is =
-        if_some (last_of showings) (λ s. IsCurrent s latest) (λ showing is width height x y column row none.
-        shows_still cell latest older given areas showings showing starts ended own loads comparable (earlier_is showings before) is before width height x y column row
-        (by_not (is_shown latest.end) (has_pixel latest.entry.owed (pos x) (pos y)) unshown (or_first (not (is_shown latest.end) && has_pixel latest.entry.owed (pos x) (pos y)) (has_pixel latest.entry.hidden (pos x) (pos y)) none)))
-
--- one more frame, which reports in what it differs from the last
-reported_more : (first : Showing) (earlier : List Showing) (last : Showing) → AreReportedAfter first earlier → IfSome (last_of (first ∷ earlier)) (λ s. Reports s last) → AreReportedAfter first (earlier ++ last ∷ [])
-reported_more first [] last reported reports = (reports, tt)
-reported_more first (next ∷ earlier) last reported reports = (reported.0, reported_more next earlier last reported.1 reports)
-
-reported_on : (earlier : List Showing) (last : Showing) → AreReported earlier → IfSome (last_of earlier) (λ s. Reports s last) → AreReported (earlier ++ last ∷ [])
-reported_on [] last reported reports = tt
-reported_on (first ∷ earlier) last reported reports = reported_more first earlier last reported reports
+        subst (λ list. AreCurrent (latest ∷ older) list) (sym is) here
+    by false unshown [] before earlier_is = tt
+    by false unshown (showing ∷ earlier) before earlier_is = λ width height x y column row none.
+        shows_still cell latest older given areas showing earlier starts ended own loads comparable (earlier_is (showing ∷ earlier) before) width height x y column row
+        (subst (λ (b : Bool). (not b && has_pixel latest.entry.owed (pos x) (pos y)) ≡ false) unshown (or_first (not (is_shown latest.end) && has_pixel latest.entry.owed (pos x) (pos y)) (has_pixel latest.entry.hidden (pos x) (pos y)) none))
 
 -- a pixel that is owed and isn't hidden is updated
 updated : (cell : ℕ) (before : Option Latest) (now : Capture) (given areas : List Area) (entry : Entry) (x y : ℕ) → Starts cell before now given areas entry → has_pixel entry.owed (pos x) (pos y) ≡ true → has_pixel entry.hidden (pos x) (pos y) ≡ false → has_pixel entry.updates (pos x) (pos y) ≡ true
@@ -143,16 +112,19 @@ pub reported : (cell : ℕ) (starts : List Latest) (showings : List Showing) →
 reported cell [] showings chain comparable shows = subst AreReported (sym shows) tt
 reported cell (latest ∷ older) showings (given, areas, starts, ended, chain) (own, loads, comparable) shows = by (is_shown latest.end) shows (λ earlier. reported cell older earlier chain comparable) (λ earlier. current cell older earlier chain comparable)
   where
-    reports : (earlier : List Showing) (f last : Showing) → Shows older earlier → IsShowing latest.entry last → AreCurrent older earlier → last_of earlier ≡ Some f → Reports f last
-    reports earlier f last before showing is_current is width height x y column row unhidden differ =
+    reports : (f last : Showing) (earlier : List Showing) → IsShowing latest.entry last → AreCurrent older (f ∷ earlier) → Reports f last
+    reports f last earlier showing is_current width height x y column row unhidden differ =
         let column_here : x < latest.entry.capture.w = omega (arith, column, showing.width) in
         let row_here : y < latest.entry.capture.h = omega (arith, row, showing.height) in
         let unhidden_here : has_pixel latest.entry.hidden (pos x) (pos y) ≡ false = ap (λ areas. has_pixel areas (pos x) (pos y)) (sym showing.hidden) ∙ unhidden in
         let owed : has_pixel latest.entry.owed (pos x) (pos y) ≡ true = true_from_ne_false (has_pixel latest.entry.owed (pos x) (pos y)) (λ unowed.
-        differ (shows_still cell latest older given areas earlier f starts ended own loads comparable is_current is before (width ∙ showing.width) (height ∙ showing.height) x y column_here row_here unowed ∙ sym (showing.pixels x y column_here row_here unhidden_here))) in
+        differ (shows_still cell latest older given areas f earlier starts ended own loads comparable is_current (width ∙ showing.width) (height ∙ showing.height) x y column_here row_here unowed ∙ sym (showing.pixels x y column_here row_here unhidden_here))) in
         ap (λ areas. has_pixel areas (pos x) (pos y)) showing.updates ∙ updated cell (newest_of older) latest.entry.capture given areas latest.entry x y starts owed unhidden_here
 
-    by : (b : Bool) → ShowsLast b latest.entry (Shows older) showings → ((earlier : List Showing) → Shows older earlier → AreReported earlier) → ((earlier : List Showing) → Shows older earlier → AreCurrent older earlier) → AreReported showings
-    by true (earlier, last, before, showing, is) earlier_reported earlier_current =
-        subst AreReported (sym is) (reported_on earlier last (earlier_reported earlier before) (if_some (last_of earlier) (λ s. Reports s last) (λ f at. reports earlier f last before showing (earlier_current earlier before) at)))
+    one_more : (last : Showing) (earlier : List Showing) → IsShowing latest.entry last → AreCurrent older earlier → AreReported earlier → AreReported (last ∷ earlier)
+    one_more last [] showing is_current reported_so = tt
+    one_more last (f ∷ earlier) showing is_current reported_so = (reports f last earlier showing is_current, reported_so)
+
+    by : (b : Bool) → ShowsFirst b latest.entry (Shows older) showings → ((earlier : List Showing) → Shows older earlier → AreReported earlier) → ((earlier : List Showing) → Shows older earlier → AreCurrent older earlier) → AreReported showings
+    by true (last, earlier, before, showing, is) earlier_reported earlier_current = subst AreReported (sym is) (one_more last earlier showing (earlier_current earlier before) (earlier_reported earlier before))
     by false before earlier_reported earlier_current = earlier_reported showings before

@@ -7,7 +7,7 @@ use Rattle.ev_model.specs.declared.refusal.Refusal.{Refusal}
 use Rattle.ev_preload.specs.Job.{Job}
 use Rattle.ev_preload.specs.Loads.{after_begin, after_hold, after_collect, collected}
 use Rattle.ev_preload.specs.declared.end.LoadEnd.{LoadEnd}
-use Rattle.ev_scene.specs.Board.{stage_of}
+use Rattle.ev_scene.specs.Board.{named, stage_of}
 use Rattle.ev_canvas.specs.CanvasFrames.{AddsRect, IsStarted, runs, ended, end_of}
 use Rattle.ev_canvas.specs.Loading.{EditsUnless, Collects, is_waiting, kept, gone, asked, stopped, after_stop}
 use Rattle.ev_canvas.specs.Now.{Now}
@@ -54,12 +54,12 @@ pub record MayFlush (old : Now) (result : Flushed) (new : Now) : Type 0 where
 
 -- a preload begins for the object of a name, or is refused
 pub record MayPreload (old : Now) (name : List ℕ) (result : Result Job Refusal) (new : Now) : Type 0 where
-  pub answer : result ≡ asked old.scene old.loads name
+  pub answer : result ≡ asked old.loads (named old.scene.objects name)
   pub begins : new ≡ record old { loads = after_begin old.loads result }
 
 -- the preload for the object of a name is cancelled, or that is refused
 pub record MayCancel (old : Now) (name : List ℕ) (result : Result Job Refusal) (new : Now) : Type 0 where
-  pub answer : result ≡ stopped old.scene old.loads name
+  pub answer : result ≡ stopped old.loads (named old.scene.objects name)
   pub ends : new ≡ record old { loads = after_stop old.loads result }
 
 -- an end is held for the preload of a number

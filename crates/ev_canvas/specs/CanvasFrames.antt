@@ -81,12 +81,9 @@ abbrev pub finish_of : Option Latest → Finish
 finish_of None = finish.Idle
 finish_of (Some latest) = if is_running latest.end then finish.Frame latest.entry.number else finish.Idle
 
-abbrev pub with_end : End → Latest → Latest
-with_end e latest = record latest { end = e }
-
 -- the newest frame ended like this, and is the one drawn last
 abbrev pub ended : Frames → End → Frames
-ended f e = record f { newest = option_map (with_end e) f.newest; drawn = drawn_by f.newest }
+ended f e = record f { newest = option_map (λ (latest : Latest). record latest { end = e }) f.newest; drawn = drawn_by f.newest }
 
 abbrev pub end_of : Flushed → End
 end_of flushed.Shown = end.Shown
@@ -113,8 +110,10 @@ abbrev pub picture_refusal : Option Latest → Option NoPicture
 picture_refusal None = Some no_picture.NoFrame
 picture_refusal (Some latest) = if is_running latest.end then Some no_picture.Busy else None
 
--- the picture of the newest start, which is a full redraw of its scene
-abbrev pub IsPictureOf : Option Latest → Result Grid NoPicture → Type 0
-IsPictureOf latest (Err cause) = picture_refusal latest ≡ Some cause
-IsPictureOf None (Ok picture) = ⊥
-IsPictureOf (Some latest) (Ok picture) = (is_running latest.end ≡ false) × IsRedrawn latest.entry.capture picture
+-- a picture of the frame drawn last: the newest start's, which ended, and a full redraw of its scene
+pub record IsPictureOf (f : Frames) (picture : Grid) : Type 0 where
+  pub latest : Latest
+  pub newest : f.newest ≡ Some latest
+  pub ended : is_running latest.end ≡ false
+  pub last : f.drawn ≡ drawn_by (Some latest)
+  pub redrawn : IsRedrawn latest.entry.capture picture

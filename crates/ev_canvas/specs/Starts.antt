@@ -25,18 +25,15 @@ pub record Latest : Type 0 where
 
 abbrev pub is_running : End → Bool
 is_running end.Running = true
-is_running end.Shown = false
-is_running end.Lost = false
+is_running other = false
 
 abbrev pub is_shown : End → Bool
-is_shown end.Running = false
 is_shown end.Shown = true
-is_shown end.Lost = false
+is_shown other = false
 
 abbrev pub is_lost : End → Bool
-is_lost end.Running = false
-is_lost end.Shown = false
 is_lost end.Lost = true
+is_lost other = false
 
 -- the number of the newest start, or 0 before there is one
 abbrev pub last_number : Option Latest → ℕ

@@ -21,6 +21,8 @@ use Rattle.ev_canvas.specs.declared.canvas.Setup.{Setup}
 use Rattle.ev_canvas.specs.declared.event.Event.{Event}
 use Rattle.ev_canvas.specs.declared.flush.Flushed.{Flushed}
 use Rattle.ev_canvas.specs.declared.flush.Flushed.TheVariants as flushed
+use Rattle.ev_canvas.specs.declared.look.NoPicture.{NoPicture}
+use Rattle.ev_canvas.specs.declared.look.NoPicture.TheVariants as no_picture
 use Rattle.ev_canvas.specs.declared.start.Started.{Started}
 use Rattle.ev_canvas.specs.declared.start.StartErr.{StartErr}
 use Rattle.ev_canvas.specs.declared.start.StartErr.TheVariants as start_err
@@ -106,7 +108,7 @@ told_flush flushed (Some latest) = told_frame flushed latest.entry ∷ []
 -- what follows on a start that a render made, or that was refused and changed nothing
 abbrev pub EndsRender : State → ℕ → Result Started StartErr → Now → Turn → Type 0
 EndsRender old n (Ok started) begun turn = (flushed : Flushed) × MayFlush begun flushed turn.after.now
-    × (turn.replies ≡ told_flush flushed begun.frames.newest) × (turn.after.older ≡ starts_of old)
+    × (turn.replies ≡ told_flush flushed turn.after.now.frames.newest) × (turn.after.older ≡ starts_of old)
 EndsRender old n (Err cause) begun turn = turn ≡ stays old (Refused (start_refusal cause) n ∷ [])
 
 -- a start, and a flush of its frame
@@ -158,6 +160,11 @@ rows entry = map (λ y. DumpRow (place_row entry y)) (range_with_len 0 entry.cap
 -- its totals, as one reply
 abbrev pub sums : Entry → List Answer
 sums entry = totals (flat_map (place_row entry) (range_with_len 0 entry.capture.h)) ∷ []
+
+-- the refusal of a command that asks for a picture where there is none
+abbrev pub picture_cause : NoPicture → Refusal
+picture_cause no_picture.Busy = Busy
+picture_cause no_picture.NoFrame = NoFrame
 
 -- what a command of line n prints of the newest start: it is refused where there is none, and while its frame is running
 abbrev pub printed : (Entry → List Answer) → ℕ → Option Latest → List Answer

@@ -11,9 +11,9 @@ impl Canvas {
     ghost use Rattle.ev_canvas.specs.Canvas.{now_of};
     ghost use Rattle.ev_canvas.specs.CanvasCalls.{MayDamage, MayHide, cleared};
 
-    /// Gives a rectangle whose pixels the next start counts as touched. `Range` exactly where x or y
-    /// leaves -1,000,000 to 1,000,000, or w or h leaves 0 to 1,000,000; `NoMemory` where there is no
-    /// room for it (docs/SCRIPT.md, "Commands").
+    /// Gives a rectangle whose pixels the next start counts as touched. `Range` exactly where x or
+    /// y leaves -1,000,000 to 1,000,000, or w or h leaves 0 to 1,000,000; `NoMemory` where there is
+    /// no room for it (docs/SCRIPT.md, "Commands").
     pub fn damage(&mut self, x: i64, y: i64, w: i64, h: i64) -> Result<(), Refusal>
         ensures gives { MayDamage (now_of self.old) (area_of x y w h) result (now_of self.new) }
         ensures alone { self.new ≡ record self.old { frames = self.new.frames } }

@@ -1,5 +1,5 @@
 // What is seen of the frame drawn last, and counts.
-ghost use Rattle.std.specs.Prelude.{◌≡◌, Ok, Err, MatchResult};
+ghost use Rattle.std.specs.Prelude.{◌≡◌, Some, MatchResult};
 
 use crate::Canvas;
 use ev_argb::Picture;
@@ -17,7 +17,7 @@ pub enum NoPicture {
 
 impl Canvas {
     ghost use Rattle.ev_canvas.specs.Starts.{last_number};
-    ghost use Rattle.ev_canvas.specs.CanvasFrames.{IsPictureOf, IsDrawnLast, runs};
+    ghost use Rattle.ev_canvas.specs.CanvasFrames.{IsPictureOf, picture_refusal, IsDrawnLast, runs};
 
     /// Whether a frame is running.
     pub(crate) fn is_running(&self) -> bool
@@ -32,8 +32,8 @@ impl Canvas {
     /// The picture of the frame drawn last. `Busy`: a frame is running. `NoFrame`: none was drawn.
     pub fn picture(&self) -> Result<&Picture, NoPicture>
         ensures { MatchResult result
-            (λ picture. IsPictureOf self.now.frames.newest (Ok picture.now))
-            (λ cause. IsPictureOf self.now.frames.newest (Err cause)) }
+            (λ picture. IsPictureOf self.now.frames picture.now)
+            (λ cause. picture_refusal self.now.frames.newest ≡ Some cause) }
     {
         match &self.newest {
             None => Err(NoPicture::NoFrame),

@@ -1,5 +1,5 @@
 -- Loads that a line begins and ends.
-use Rattle.std.proofs.Common.{◌≡◌, ℕ, ◌+◌, ◌≤◌, ◌⊎◌, inl, inr, arith, List, [], ◌∷◌, ◌++◌, map, Bool, true, ◌==◌, Option, Some, None, Ok, Err, refl, ap, ap₂, subst, sym, ◌∙◌}
+use Rattle.std.proofs.Common.{◌≡◌, ℕ, ◌+◌, ◌≤◌, ◌⊎◌, inl, inr, arith, List, [], ◌∷◌, ◌++◌, map, Bool, true, ◌==◌, Option, Some, None, Ok, Err, refl, ap, subst, sym, ◌∙◌}
 use Rattle.std.proofs.lemmas.Bool.Decides.{nat_tests}
 use Rattle.std.proofs.lemmas.Option.{same_Some}
 use Rattle.ev_port.specs.Told.{grows_by_none}
@@ -25,7 +25,9 @@ use Rattle.ev_preload.specs.declared.end.LoadEnd.TheVariants as ended
 use Rattle.ev_canvas.specs.CanvasCalls.{MayPreload, MayCollect, held}
 use Rattle.ev_canvas.specs.Canvas.{Canvas, now_of}
 use Rattle.ev_canvas.specs.Events.{event_of, first_event, later_events, told_event}
-use Rattle.ev_canvas.specs.CanvasFrames.{runs}
+use Rattle.ev_canvas.specs.CanvasFrames.{Frames, runs}
+use Rattle.ev_canvas.specs.History.{Shows}
+use Rattle.ev_canvas.specs.Turns.{starts_from}
 use Rattle.ev_canvas.specs.Loading.{EndsSo, Collects}
 use Rattle.ev_canvas.specs.Now.{Now}
 use Rattle.ev_canvas.specs.Starts.{last_number}
@@ -34,7 +36,7 @@ use Rattle.ev_script.specs.Script.{store_failures, lost_frames}
 use Rattle.ev_script.specs.Outside.{Devices, devices}
 use Rattle.ev_script.specs.Session.{Acts}
 use Rattle.ev_script.specs.declared.outcome.Outcome.TheVariants as outcome
-use Rattle.ev_script.proofs.Turns.{shows_none, refused_acts}
+use Rattle.ev_script.proofs.Turns.{refused_acts}
 
 -- what is told of an end
 abbrev told_end : List ℕ → LoadEnd → List Answer
@@ -72,13 +74,13 @@ counted_so before now (ended.Font font) end is counts = counted before now (ende
 counted_so before now other end is counts = counted before now other end (inl is) counts
 
 -- a load that was refused
-pub load_refused : (d : Devices) (name : List ℕ) (cause : Refusal) (old new : Canvas) → MayPreload (now_of old) name (Err cause) (now_of new) → new ≡ record old { loads = new.loads } → Acts (line.Command (command.Load name)) d d old new (outcome.Refused cause)
+pub load_refused : (d : Devices) (name : List ℕ) (cause : Refusal) (old new : Canvas) → MayPreload (now_of old) name (Err cause) (now_of new) → new ≡ record old { loads = new.loads } → Acts (line.Command (command.Load name)) d d old new (outcome.Done (Err cause))
 load_refused d name cause old new preload alone =
     let same : new ≡ old = alone ∙ ap (λ ls. record old { loads = ls }) (ap (λ (now : Now). now.loads) preload.begins) in
     refused_acts (line.Command (command.Load name)) d old new cause same (λ n older. record { answer = Err cause; begun = now_of new; preload = preload; ends = refl })
 
 -- a load that began where none ran, whose end was held and collected, and whose event was taken
-pub record Ended (old begun holding done new : Canvas) (job : Job) (k m : ℕ) (taken : Bool) (event : Event) (name : List ℕ) (end : LoadEnd) (files : Option (List StoredFile)) (before now : ℕ) : Type 0 where
+pub record Ended (old begun holding done new : Canvas) (job : Job) (taken : Bool) (event : Event) (name : List ℕ) (end : LoadEnd) (files : Option (List StoredFile)) (before now : ℕ) : Type 0 where
   pub idle : old.loads.running ≡ []
   pub preload : MayPreload (now_of old) name (Ok job) (now_of begun)
   pub begun_alone : begun ≡ record old { loads = begun.loads }
@@ -86,28 +88,23 @@ pub record Ended (old begun holding done new : Canvas) (job : Job) (k m : ℕ) (
   pub of_kind : IsOfKind job.kind end
   pub counts : HasCounts before now end
   pub later : before ≤ now
-  pub holds : now_of holding ≡ held (now_of begun) k end
+  pub holds : now_of holding ≡ held (now_of begun) job.number end
   pub held_alone : holding ≡ record begun { loads = holding.loads }
-  pub collects : MayCollect (now_of holding) m taken (now_of done) done.events
+  pub collects : MayCollect (now_of holding) job.number taken (now_of done) done.events
   pub collected_setup : done.setup ≡ holding.setup
   pub first : Some event ≡ first_event done.events
   pub rest : new ≡ record done { events = later_events done.events }
-  pub held_number : k ≡ job.number
-  pub collected_number : m ≡ job.number
-
--- a number is itself
-same_number : (k : ℕ) → (k == k) ≡ true
-same_number k = grind (arith, nat_tests)
 
 -- the end that comes for the only preload is held for it, and collected
-hold_one : (job : Job) (end : LoadEnd) → hold (record { job = job; end = None } ∷ []) job.number end ≡ record { job = job; end = Some end } ∷ []
-hold_one job end = rw (same_number job.number) refl
+pub record IsOne (job : Job) (end : LoadEnd) : Type 0 where
+  pub held : hold (record { job = job; end = None } ∷ []) job.number end ≡ record { job = job; end = Some end } ∷ []
+  pub found : collected (record { job = job; end = Some end } ∷ []) job.number ≡ Some (job, end)
+  pub left : without (record { job = job; end = Some end } ∷ []) job.number ≡ []
 
-collected_one : (job : Job) (end : LoadEnd) → collected (record { job = job; end = Some end } ∷ []) job.number ≡ Some (job, end)
-collected_one job end = rw (same_number job.number) refl
-
-without_one : (job : Job) (end : LoadEnd) → without (record { job = job; end = Some end } ∷ []) job.number ≡ []
-without_one job end = rw (same_number job.number) refl
+only_one : (job : Job) (end : LoadEnd) → IsOne job end
+only_one job end =
+    let same : (job.number == job.number) ≡ true = grind (arith, nat_tests) in
+    record { held = rw same refl; found = rw same refl; left = rw same refl }
 
 -- what such a load tells and leaves
 record Left (old done new : Canvas) (job : Job) (event : Event) (came : LoadEnd) : Type 0 where
@@ -118,15 +115,13 @@ record Left (old done new : Canvas) (job : Job) (event : Event) (came : LoadEnd)
   pub frames : new.frames ≡ old.frames
   pub loads : new.loads ≡ record { running = []; begun = old.loads.begun + 1 }
 
-left_by : (old begun holding done new : Canvas) (job : Job) (k m : ℕ) (taken : Bool) (event : Event) (name : List ℕ) (end : LoadEnd) (files : Option (List StoredFile)) (before now : ℕ) → Ended old begun holding done new job k m taken event name end files before now → Left old done new job event end
-left_by old begun holding done new job k m taken event name end files before now loading =
-    let first : Loads = record { running = record { job = job; end = None } ∷ []; begun = old.loads.begun + 1 } in
-    let one : Loads = record { running = record { job = job; end = Some end } ∷ []; begun = old.loads.begun + 1 } in
-    let add : List Preload → Loads = λ running. record { running = running ++ record { job = job; end = None } ∷ []; begun = old.loads.begun + 1 } in
-    let keep : List Preload → Loads = λ running. record { running = running; begun = old.loads.begun + 1 } in
-    let begun_loads : begun.loads ≡ first = ap (λ (now : Now). now.loads) loading.preload.begins ∙ ap add loading.idle in
-    let held_loads : holding.loads ≡ one = ap (λ (now : Now). now.loads) loading.holds ∙ ap₂ (λ ls n. after_hold ls n end) begun_loads loading.held_number ∙ ap keep (hold_one job end) in
-    let found : collected holding.loads.running m ≡ Some (job, end) = ap₂ (λ (ls : Loads) n. collected ls.running n) held_loads loading.collected_number ∙ collected_one job end in
+left_by : (old begun holding done new : Canvas) (job : Job) (taken : Bool) (event : Event) (name : List ℕ) (end : LoadEnd) (files : Option (List StoredFile)) (before now : ℕ) → Ended old begun holding done new job taken event name end files before now → Left old done new job event end
+left_by old begun holding done new job taken event name end files before now loading =
+    let one = only_one job end in
+    let loads : List Preload → Loads = λ running. record { running = running; begun = old.loads.begun + 1 } in
+    let begun_loads = ap (λ (now : Now). now.loads) loading.preload.begins ∙ ap (λ running. loads (running ++ record { job = job; end = None } ∷ [])) loading.idle in
+    let held_loads : holding.loads ≡ loads (record { job = job; end = Some end } ∷ []) = ap (λ (now : Now). now.loads) loading.holds ∙ ap (λ ls. after_hold ls job.number end) begun_loads ∙ ap loads one.held in
+    let found : collected holding.loads.running job.number ≡ Some (job, end) = ap (λ (ls : Loads). collected ls.running job.number) held_loads ∙ one.found in
     let taken_so = subst (λ x. Collects x (now_of holding).scene (now_of done).scene done.events) found loading.collects.scene in
     let event_is : event ≡ event_of job.name taken_so.0 = same_Some event (event_of job.name taken_so.0) (loading.first ∙ ap first_event taken_so.2) in
     record {
@@ -135,17 +130,15 @@ left_by old begun holding done new job k m taken event name end files before now
       told = ap (λ e. told_event e ∷ []) event_is ∙ ap (λ fault. told_event (event_of job.name fault) ∷ []) taken_so.1.told;
       events = taken_so.2 ∙ ap (λ e. e ∷ []) (sym event_is);
       frames = ap (λ c. c.frames) loading.rest ∙ loading.collects.frames ∙ ap (λ c. c.frames) loading.held_alone ∙ ap (λ c. c.frames) loading.begun_alone;
-      loads = ap (λ c. c.loads) loading.rest ∙ loading.collects.loads ∙ ap₂ after_collect held_loads loading.collected_number ∙ ap keep (without_one job end);
+      loads = ap (λ c. c.loads) loading.rest ∙ loading.collects.loads ∙ ap (λ ls. after_collect ls job.number) held_loads ∙ ap loads one.left;
     }
 
 -- so the line may begin and end it
-pub load_ended : (frames : Option (List Frame)) (faults : ℕ) (files files' : Option (List StoredFile)) (before now : ℕ) (name : List ℕ) (old begun holding done new : Canvas) (job : Job) (k m : ℕ) (taken : Bool) (event : Event) (end : LoadEnd) → files' ≡ files → Ended old begun holding done new job k m taken event name end files before now → Acts (line.Command (command.Load name)) (devices frames faults files before) (devices frames faults files' now) old new (outcome.Event event)
-load_ended frames faults files files' before now name old begun holding done new job k m taken event end files_stay loading =
-    let left = left_by old begun holding done new job k m taken event name end files before now loading in
-    let done_now : now_of done ≡ now_of new = sym (ap now_of loading.rest) in
-    let from_held : MayCollect (held (now_of begun) k end) m taken (now_of done) done.events = subst (λ (old_now : Now). MayCollect old_now m taken (now_of done) done.events) loading.holds loading.collects in
-    let by_number : MayCollect (held (now_of begun) job.number end) job.number taken (now_of done) done.events = subst (λ n. MayCollect (held (now_of begun) job.number end) n taken (now_of done) done.events) loading.collected_number (subst (λ n. MayCollect (held (now_of begun) n end) m taken (now_of done) done.events) loading.held_number from_held) in
-    let collects : MayCollect (held (now_of begun) job.number end) job.number taken (now_of new) done.events = subst (λ (left_now : Now). MayCollect (held (now_of begun) job.number end) job.number taken left_now done.events) done_now by_number in
+pub load_ended : (frames : Option (List Frame)) (faults : ℕ) (files files' : Option (List StoredFile)) (before now : ℕ) (name : List ℕ) (old begun holding done new : Canvas) (job : Job) (taken : Bool) (event : Event) (end : LoadEnd) → files' ≡ files → Ended old begun holding done new job taken event name end files before now → Acts (line.Command (command.Load name)) (devices frames faults files before) (devices frames faults files' now) old new (outcome.Event event)
+load_ended frames faults files files' before now name old begun holding done new job taken event end files_stay loading =
+    let left = left_by old begun holding done new job taken event name end files before now loading in
+    let collects : MayCollect (held (now_of begun) job.number end) job.number taken (now_of new) done.events = subst (λ (after : Now). MayCollect (held (now_of begun) job.number end) job.number taken after done.events) (sym (ap now_of loading.rest))
+    (subst (λ (holding : Now). MayCollect holding job.number taken (now_of done) done.events) loading.holds loading.collects) in
     record {
       turns = λ n older. record {
         starts = older;
@@ -156,7 +149,7 @@ load_ended frames faults files files' before now name old begun holding done new
           ends = record { end = end; by_files = loading.by_files; of_kind = loading.of_kind; taken = taken; events = done.events; collects = collects; tells = ap (map told_event) (sym left.events); older = refl };
         };
         showings = [];
-        shows_more = λ earlier shows. shows_none old.frames.newest new.frames.newest older earlier (ap (λ f. f.newest) left.frames) shows;
+        shows_more = λ earlier shows. subst (λ (f : Frames). Shows (starts_from f.newest older) earlier) (sym left.frames) shows;
         screen_grows = grows_by_none frames;
         losses = subst (λ rs. RoseBy (lost_frames rs) faults faults) (sym left.told) (subst (λ n. RoseBy n faults faults) (sym (loses_none job.name (fault_of left.end))) (rose_by_none faults faults (omega arith)));
         failures = subst (λ rs. RoseBy (store_failures rs) before now) (sym left.told) (fails_once job.name left.end before now loading.later (counted_so before now end left.end left.is loading.counts));

@@ -1,22 +1,24 @@
 -- The places of a picture, part of which may be hidden.
-use Rattle.std.proofs.Common.{◌≡◌, ℕ, zero, suc, ◌+◌, ◌<◌, List, [], ◌∷◌, ◌++◌, map, get_or, Bool, true, false, Option, Some, None, Ok, Err, cond, refl, sym, ap, ap₂, ◌∙◌, arith}
+use Rattle.std.proofs.Common.{◌≡◌, ℕ, zero, suc, ◌+◌, ◌<◌, List, [], ◌∷◌, ◌++◌, map, get_or, Bool, true, false, Option, Some, None, cond, refl, sym, ap, ap₂, ◌∙◌, arith}
 use Rattle.std.specs.List.{range_with_len, flat_map}
-use Rattle.std.proofs.lemmas.Option.{none-some}
+use Rattle.std.proofs.lemmas.Option.{none-some, same_Some}
 use Rattle.std.proofs.lemmas.List.FromFn.{get_or-map-range_with_len, length-map-range_with_len}
 use Rattle.ev_argb.specs.Argb.{Argb, clear}
 use Rattle.ev_argb.specs.Grid.{Grid, pixel_at, row_of}
 use Rattle.ev_geom.specs.Area.{Area}
-use Rattle.ev_model.specs.Answer.{Answer, DumpRow}
+use Rattle.ev_model.specs.Answer.{Answer, DumpRow, Refused}
 use Rattle.ev_model.specs.Paint.{IsRedrawn}
+use Rattle.ev_model.specs.declared.refusal.Refusal.TheVariants.{Busy}
 use Rattle.ev_canvas.specs.Starts.{Entry, Latest, is_running}
 use Rattle.ev_canvas.specs.Totals.{totals}
 use Rattle.ev_canvas.specs.Turns as machine
-use Rattle.ev_canvas.specs.CanvasFrames.{Frames, IsPictureOf, IsDrawnLast, drawn_by, picture_refusal, runs}
+use Rattle.ev_canvas.specs.Turns.{printed, picture_cause, told_flush}
+use Rattle.ev_canvas.specs.CanvasFrames.{Frames, IsPictureOf, picture_refusal, runs}
+use Rattle.ev_canvas.specs.declared.flush.Flushed.{Flushed}
 use Rattle.ev_canvas.specs.declared.look.NoPicture.{NoPicture}
 use Rattle.ev_canvas.specs.declared.look.NoPicture.TheVariants as no_picture
-use Rattle.ev_script.specs.Script.{lost_frames, store_failures}
-use Rattle.ev_script.specs.LineReplies.{of_drawn}
 use Rattle.ev_script.specs.Dumps.{unhidden, unhidden_row, place_row, places}
+use Rattle.ev_script.proofs.Turns.{AreQuiet}
 
 -- two functions that agree below a bound make the same list of a range below it
 pub same_map : {A : Type 0} (f g : ℕ → A) (from count bound : ℕ) → from + count ≡ bound → ((k : ℕ) → k < bound → f k ≡ g k) → map f (range_with_len from count) ≡ map g (range_with_len from count)
@@ -58,36 +60,25 @@ same_sums entry grid drawn = ap (λ ps. totals ps ∷ []) (
     ap (λ h. flat_map (place_row entry.hidden grid) (range_with_len 0 h)) drawn.height
     ∙ same_flat_map (place_row entry.hidden grid) (machine.place_row entry) 0 entry.capture.h entry.capture.h (omega arith) (λ y below. same_row entry grid y drawn below))
 
--- no row tells of a lost frame
-pub rows_lose_none : (row : ℕ → List (Option Argb)) (ys : List ℕ) → lost_frames (map (λ y. DumpRow (row y)) ys) ≡ 0
-rows_lose_none row [] = refl
-rows_lose_none row (y ∷ ys) = omega (arith, rows_lose_none row ys)
+-- no row tells of a failure
+pub rows_quietly : (row : ℕ → List (Option Argb)) (ys : List ℕ) → AreQuiet (map (λ y. DumpRow (row y)) ys)
+rows_quietly row [] = record { losses = refl; failures = refl }
+rows_quietly row (y ∷ ys) = let rest = rows_quietly row ys in record { losses = rest.losses; failures = rest.failures }
 
--- nor of a load that failed
-pub rows_fail_none : (row : ℕ → List (Option Argb)) (ys : List ℕ) → store_failures (map (λ y. DumpRow (row y)) ys) ≡ 0
-rows_fail_none row [] = refl
-rows_fail_none row (y ∷ ys) = omega (arith, rows_fail_none row ys)
+-- where this is the picture drawn last, what is printed is of the start that it shows
+pub printed_as : (print : Entry → List Answer) (n : ℕ) (f : Frames) (grid : Grid) (is : IsPictureOf f grid) → print is.latest.entry ≡ printed print n f.newest
+printed_as print n f grid is = sym (ap (printed print n) is.newest ∙ ap (λ b. cond b (Refused Busy n ∷ []) (print is.latest.entry)) is.ended)
 
--- where this is the picture drawn last, what is told of it is told of the start that it shows, which was drawn last
-pub drawn_is : (tell : Entry → List Answer) (f : Frames) (grid : Grid) (replies : List Answer) → IsPictureOf f.newest (Ok grid) → IsDrawnLast f → ((entry : Entry) → IsRedrawn entry.capture grid → f.drawn.updates ≡ entry.updates → f.drawn.hidden ≡ entry.hidden → replies ≡ tell entry) → replies ≡ of_drawn tell f.newest
-drawn_is tell f grid replies picture last same = by f.newest picture last
+-- where there is none, that is refused
+pub unprinted : (print : Entry → List Answer) (n : ℕ) (newest : Option Latest) (cause : NoPicture) → picture_refusal newest ≡ Some cause → Refused (picture_cause cause) n ∷ [] ≡ printed print n newest
+unprinted print n None cause is = ap (λ c. Refused (picture_cause c) n ∷ []) (sym (same_Some no_picture.NoFrame cause is))
+unprinted print n (Some latest) cause is = by (is_running latest.end) is
   where
-    by : (newest : Option Latest) → IsPictureOf newest (Ok grid) → (runs newest ≡ false → f.drawn ≡ drawn_by newest) → replies ≡ of_drawn tell newest
-    by None picture last = absurd picture
-    by (Some latest) picture last =
-        let drawn = last picture.0 in
-        same latest.entry picture.1 (ap (λ d. d.updates) drawn) (ap (λ d. d.hidden) drawn) ∙ sym (ap (λ b. cond b [] (tell latest.entry)) picture.0)
+    by : (b : Bool) → cond b (Some no_picture.Busy) None ≡ Some cause → Refused (picture_cause cause) n ∷ [] ≡ cond b (Refused Busy n ∷ []) (print latest.entry)
+    by true is = ap (λ c. Refused (picture_cause c) n ∷ []) (sym (same_Some no_picture.Busy cause is))
+    by false is = absurd (none-some cause is)
 
--- where there is none, nothing is
-pub none_drawn : (tell : Entry → List Answer) (newest : Option Latest) (cause : NoPicture) → IsPictureOf newest (Err cause) → [] ≡ of_drawn tell newest
-none_drawn tell None cause refused = refl
-none_drawn tell (Some latest) cause refused = by (is_running latest.end) refused
-  where
-    by : (b : Bool) → cond b (Some no_picture.Busy) None ≡ Some cause → [] ≡ cond b [] (tell latest.entry)
-    by true refused = refl
-    by false refused = absurd (none-some cause refused)
-
--- where there is a picture, nothing refuses it
-pub none_refused : (newest : Option Latest) (grid : Grid) → IsPictureOf newest (Ok grid) → picture_refusal newest ≡ None
-none_refused None grid picture = absurd picture
-none_refused (Some latest) grid picture = ap (λ b. cond b (Some no_picture.Busy) None) picture.0
+-- of a frame that ended where there is no picture nothing is told
+pub no_flush : (flushed : Flushed) (newest : Option Latest) (cause : NoPicture) → runs newest ≡ false → picture_refusal newest ≡ Some cause → [] ≡ told_flush flushed newest
+no_flush flushed None cause idle is = refl
+no_flush flushed (Some latest) cause idle is = absurd (none-some cause (sym (ap (λ b. cond b (Some no_picture.Busy) None) idle) ∙ is))

@@ -1,6 +1,7 @@
 -- A script that is played line by line.
-use Rattle.std.proofs.Common.{◌≡◌, ℕ, ◌+◌, List, [], ◌∷◌, ◌++◌, map, Bool, true, false, Option, Ok, Err, refl, ap, ap₂, subst, sym, ◌∙◌, append_assoc, ◌==◌, ◌<◌, length, length-append, add_assoc, arith}
-use Rattle.std.proofs.lemmas.List.{append-nil, map-append}
+use Rattle.std.proofs.Common.{◌≡◌, ℕ, ◌+◌, List, [], ◌∷◌, ◌++◌, map, reverse, Bool, true, false, Option, Ok, Err, refl, ap, ap₂, subst, sym, ◌∙◌, append_assoc, ◌==◌, ◌<◌, length, length-append, arith}
+use Rattle.std.proofs.lemmas.List.{append-nil, map-append, reverse-append}
+use Rattle.std.proofs.lemmas.List.Sums.{sum_by-append}
 use Rattle.std.proofs.lemmas.Grind.{flat_map-append}
 use Rattle.ev_port.specs.Told.{GrowsBy, grows_on, grows_by_none}
 use Rattle.ev_port.specs.Causes.{RoseBy, rose_by_none, rose_by_on}
@@ -15,7 +16,6 @@ use Rattle.ev_lang.specs.declared.line.Line.{Line}
 use Rattle.ev_lang.specs.declared.line.Line.TheVariants as line
 use Rattle.ev_canvas.specs.Canvas.{Canvas, opened as new_canvas}
 use Rattle.ev_canvas.specs.CanvasFrames.{runs}
-use Rattle.ev_canvas.specs.History.{Showing, Shows}
 use Rattle.ev_canvas.specs.Ledger.{IsSound}
 use Rattle.ev_canvas.specs.declared.canvas.Setup.{Setup}
 use Rattle.ev_canvas.specs.Turns.{Setting, State, Turn, opening, starts_of}
@@ -28,7 +28,7 @@ use Rattle.ev_script.specs.Session.{IsReady, Acts, CarriesOut, setting, state_of
 use Rattle.ev_script.specs.ScreenFrames.{ShowsInOrder}
 use Rattle.ev_script.specs.declared.outcome.Outcome.{Outcome}
 use Rattle.ev_script.specs.LineReplies.{told}
-use Rattle.ev_script.specs.Play.{script_lines, IsPlayedOn, IsStopped}
+use Rattle.ev_script.specs.Play.{script_lines, IsSeen, IsPlayedOn, IsStopped}
 use Rattle.ev_script.proofs.Orders.{shown_in_order}
 
 -- the lines of a script that isn't empty
@@ -69,36 +69,18 @@ plays_on settled old n m (first ∷ answered) line replies state turn plays numb
     let number_is : n + 1 + length answered ≡ m = omega (arith, number) in
     (plays.0, rest ++ turn.replies, plays.2, plays_on settled plays.0.after (n + 1) m answered line rest state turn plays.3 number_is step, ap (λ rs. rs ++ turn.replies) plays.4 ∙ append_assoc plays.0.replies rest turn.replies)
 
--- losses of one list of replies and then another
-losses_on : (earlier later : List Answer) → lost_frames (earlier ++ later) ≡ lost_frames earlier + lost_frames later
-losses_on [] later = omega arith
-losses_on (reply ∷ earlier) later = ap (λ n. losses_of reply + n) (losses_on earlier later) ∙ sym (add_assoc (losses_of reply) (lost_frames earlier) (lost_frames later))
-
--- and the same of loads that failed in the store
-failures_on : (earlier later : List Answer) → store_failures (earlier ++ later) ≡ store_failures earlier + store_failures later
-failures_on [] later = omega arith
-failures_on (reply ∷ earlier) later = ap (λ n. store_failures_of reply + n) (failures_on earlier later) ∙ sym (add_assoc (store_failures_of reply) (store_failures earlier) (store_failures later))
-
 -- a line leaves a sound state sound
 sound_on : (settled : Setting) (state : State) (n : ℕ) (said : Line) (turn : Turn) → Step settled state n said turn → IsSound settled.setup.cell state → IsSound settled.setup.cell turn.after
 sound_on settled state n line.Empty turn is sound = subst (λ t. IsSound settled.setup.cell t.after) (sym is) sound
 sound_on settled state n (line.Bad fault) turn is sound = subst (λ t. IsSound settled.setup.cell t.after) (sym is) sound
 sound_on settled state n (line.Command said) turn is sound = commanded settled state n said turn is sound
 
--- the frames of what was shown before and of these
-frames_on : (earlier later : List Showing) → map (λ s. s.frame) (earlier ++ later) ≡ map (λ s. s.frame) earlier ++ map (λ s. s.frame) later
-frames_on earlier later = map-append (λ s. s.frame) earlier later
-
 -- How the machine plays these lines, on a canvas that then stands for the state that they leave, with
 -- these starts before the newest one, and what the screen and the store show of it.
 pub record Reaches (settled : Setting) (before now : Devices) (canvas : Canvas) (answered : List Line) (replies : List Answer) (older : List Latest) : Type 0 where
   pub plays : Plays settled opening 1 answered replies (state_of canvas older)
   pub sound : IsSound settled.setup.cell (state_of canvas older)
-  pub showings : List Showing
-  pub shows : Shows (starts_of (state_of canvas older)) showings
-  pub screen_grows : GrowsBy before.frames now.frames (map (λ s. s.frame) showings)
-  pub losses : RoseBy (lost_frames replies) before.faults now.faults
-  pub failures : RoseBy (store_failures replies) before.store_faults now.store_faults
+  pub seen : IsSeen (state_of canvas older) replies before now
   pub settles : setting canvas.setup now.files ≡ settled
 
 -- before the first line
@@ -106,11 +88,14 @@ reaches_none : (setup : Setup) (before : Devices) (canvas : Canvas) → canvas �
 reaches_none setup before canvas is = subst (λ c. Reaches (setting setup before.files) before before c [] [] []) (sym is) (record {
   plays = (refl, refl);
   sound = opened setup.cell;
-  showings = [];
-  shows = refl;
-  screen_grows = grows_by_none before.frames;
-  losses = rose_by_none before.faults before.faults (omega arith);
-  failures = rose_by_none before.store_faults before.store_faults (omega arith);
+  seen = record {
+    showings = [];
+    shows = refl;
+    reported = tt;
+    screen_grows = grows_by_none before.frames;
+    losses = rose_by_none before.faults before.faults (omega arith);
+    failures = rose_by_none before.store_faults before.store_faults (omega arith);
+  };
   settles = refl;
 })
 
@@ -127,14 +112,20 @@ reaches_on settled before now after old new n answered line replies older outcom
     let takes = acts.turns n older in
     let turn : Turn = record { replies = told new n outcome; after = state_of new takes.starts } in
     let step = step_on settled before now after old new n answered line replies older outcome reaches acts in
+    let sound = sound_on settled (state_of old older) n (by_value line) turn step reaches.sound in
+    let seen = reaches.seen in
+    let shows = takes.shows_more seen.showings seen.shows in
     record {
       plays = plays_on settled opening 1 n answered (by_value line) replies (state_of old older) turn reaches.plays (omega (arith, numbered)) step;
-      sound = sound_on settled (state_of old older) n (by_value line) turn step reaches.sound;
-      showings = reaches.showings ++ takes.showings;
-      shows = takes.shows_more reaches.showings reaches.shows;
-      screen_grows = subst (λ frames. GrowsBy before.frames after.frames frames) (sym (frames_on reaches.showings takes.showings)) (grows_on reaches.screen_grows takes.screen_grows);
-      losses = subst (λ k. RoseBy k before.faults after.faults) (sym (losses_on replies turn.replies)) (rose_by_on (lost_frames replies) (lost_frames turn.replies) before.faults now.faults after.faults reaches.losses takes.losses);
-      failures = subst (λ k. RoseBy k before.store_faults after.store_faults) (sym (failures_on replies turn.replies)) (rose_by_on (store_failures replies) (store_failures turn.replies) before.store_faults now.store_faults after.store_faults reaches.failures takes.failures);
+      sound = sound;
+      seen = record {
+        showings = takes.showings ++ seen.showings;
+        shows = shows;
+        reported = reported settled.setup.cell (starts_of turn.after) (takes.showings ++ seen.showings) sound.chain sound.comparable shows;
+        screen_grows = subst (λ frames. GrowsBy before.frames after.frames frames) (sym (ap (map (λ s. s.frame)) (reverse-append takes.showings seen.showings) ∙ map-append (λ s. s.frame) (reverse seen.showings) (reverse takes.showings))) (grows_on seen.screen_grows takes.screen_grows);
+        losses = subst (λ k. RoseBy k before.faults after.faults) (sym (sum_by-append losses_of replies turn.replies)) (rose_by_on (lost_frames replies) (lost_frames turn.replies) before.faults now.faults after.faults seen.losses takes.losses);
+        failures = subst (λ k. RoseBy k before.store_faults after.store_faults) (sym (sum_by-append store_failures_of replies turn.replies)) (rose_by_on (store_failures replies) (store_failures turn.replies) before.store_faults now.store_faults after.store_faults seen.failures takes.failures);
+      };
       settles = ap₂ setting acts.setup acts.files ∙ reaches.settles;
     }
 
@@ -176,28 +167,21 @@ one_line settled script log now_log log' before now after old new number (b ∷ 
     }
 
 -- after the last line
-pub at_end : (settled : Setting) (script : List ℕ) (log log' : Option (List ℕ)) (before now : Devices) (canvas : Canvas) (number : ℕ) (rest : List ℕ) → length rest ≡ 0 → SoFar settled script log log' before now canvas number rest → IsPlayedOn canvas settled script (outside log before.frames before.faults before.store_faults) (outside log' now.frames now.faults now.store_faults)
+pub at_end : (settled : Setting) (script : List ℕ) (log log' : Option (List ℕ)) (before now : Devices) (canvas : Canvas) (number : ℕ) (rest : List ℕ) → length rest ≡ 0 → SoFar settled script log log' before now canvas number rest → IsPlayedOn canvas settled script (outside log before) (outside log' now)
 at_end settled script log log' before now canvas number (b ∷ bs) none so_far = absurd (omega arith)
-at_end settled script log log' before now canvas number [] none so_far =
-    let reaches = so_far.reaches in
-    record {
-      played = record {
-        replies = so_far.replies;
-        final = state_of canvas so_far.older;
-        plays = subst (λ ls. Plays settled opening 1 ls so_far.replies (state_of canvas so_far.older)) (sym (so_far.split ∙ append-nil so_far.answered)) reaches.plays;
-        log_grows = so_far.log_grows;
-        showings = reaches.showings;
-        shows = reaches.shows;
-        reported = reported settled.setup.cell (starts_of (state_of canvas so_far.older)) reaches.showings reaches.sound.chain reaches.sound.comparable reaches.shows;
-        screen_grows = reaches.screen_grows;
-        losses = reaches.losses;
-        failures = reaches.failures;
-      };
-      stands = refl;
-    }
+at_end settled script log log' before now canvas number [] none so_far = record {
+  played = record {
+    replies = so_far.replies;
+    final = state_of canvas so_far.older;
+    plays = subst (λ ls. Plays settled opening 1 ls so_far.replies (state_of canvas so_far.older)) (sym (so_far.split ∙ append-nil so_far.answered)) so_far.reaches.plays;
+    log_grows = so_far.log_grows;
+    seen = so_far.reaches.seen;
+  };
+  stands = refl;
+}
 
 -- where the log failed within the replies to a line
-pub stopped : {T E : Type 0} (settled : Setting) (script : List ℕ) (log now_log log' : Option (List ℕ)) (before now after : Devices) (old new : Canvas) (number : ℕ) (rest : List ℕ) (line : Line) (behind : List ℕ) (cause : E) → 0 < length rest → by_value line ≡ line_of (first_line rest) → behind ≡ after_line rest → SoFar settled script log now_log before now old number rest → CarriesOut {T = T} {E = E} number line now_log log' now after old new (Err cause) → IsStopped settled script (outside log before.frames before.faults before.store_faults) (outside log' after.frames after.faults after.store_faults)
+pub stopped : {T E : Type 0} (settled : Setting) (script : List ℕ) (log now_log log' : Option (List ℕ)) (before now after : Devices) (old new : Canvas) (number : ℕ) (rest : List ℕ) (line : Line) (behind : List ℕ) (cause : E) → 0 < length rest → by_value line ≡ line_of (first_line rest) → behind ≡ after_line rest → SoFar settled script log now_log before now old number rest → CarriesOut {T = T} {E = E} number line now_log log' now after old new (Err cause) → IsStopped settled script (outside log before) (outside log' after)
 stopped settled script log now_log log' before now after old new number [] line behind cause some is behind_is so_far carries = absurd (omega arith)
 stopped settled script log now_log log' before now after old new number (b ∷ bs) line behind cause some is behind_is so_far carries =
     let later = reaches_on settled before now after old new number so_far.answered line so_far.replies so_far.older carries.outcome so_far.numbered so_far.reaches carries.acts in
@@ -218,17 +202,12 @@ stopped settled script log now_log log' before now after old new number (b ∷ b
       missing = part.left_out;
       cut = part.split;
       log_grows = grows_on so_far.log_grows part.grows;
-      showings = later.showings;
-      shows = later.shows;
-      reported = reported settled.setup.cell (starts_of turn.after) later.showings later.sound.chain later.sound.comparable later.shows;
-      screen_grows = later.screen_grows;
-      losses = later.losses;
-      failures = later.failures;
+      seen = later.seen;
     }
 
 -- the screen shows in order so far
 pub in_order : (settled : Setting) (before now : Devices) (canvas : Canvas) (answered : List Line) (replies : List Answer) (older : List Latest) → Reaches settled before now canvas answered replies older → ShowsInOrder before.frames now.frames
-in_order settled before now canvas answered replies older reaches = shown_in_order settled.setup.cell before.frames now.frames (starts_of (state_of canvas older)) reaches.showings reaches.sound.chain reaches.shows reaches.screen_grows
+in_order settled before now canvas answered replies older reaches = shown_in_order settled.setup.cell before.frames now.frames (starts_of (state_of canvas older)) reaches.seen.showings reaches.sound.chain reaches.seen.shows reaches.seen.screen_grows
 
 -- a new canvas is ready for the first line
 pub ready_opened : (setup : Setup) (canvas : Canvas) → canvas ≡ new_canvas setup → IsReady canvas 1

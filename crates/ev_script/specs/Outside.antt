@@ -4,17 +4,7 @@ use Rattle.ev_port.specs.Told.{GrowsBy, GrowsPart}
 use Rattle.ev_port.specs.Frame.{Frame}
 use Rattle.ev_port.specs.declared.file.StoredFile.{StoredFile}
 
--- one moment of it, where the log and the frames are told
-pub record Outside : Type 0 where
-  pub log : Option (List ℕ)
-  pub frames : Option (List Frame)
-  pub faults : ℕ
-  pub store_faults : ℕ
-
-abbrev pub outside : Option (List ℕ) → Option (List Frame) → ℕ → ℕ → Outside
-outside log frames faults store_faults = record { log = log; frames = frames; faults = faults; store_faults = store_faults }
-
--- the same without the log, and the files of the store, where it tells them
+-- one moment of the screen and the store, with the frames and the files where they are told
 pub record Devices : Type 0 where
   pub frames : Option (List Frame)
   pub faults : ℕ
@@ -23,6 +13,14 @@ pub record Devices : Type 0 where
 
 abbrev pub devices : Option (List Frame) → ℕ → Option (List StoredFile) → ℕ → Devices
 devices frames faults files store_faults = record { frames = frames; faults = faults; files = files; store_faults = store_faults }
+
+-- the same with the log, where that is told
+pub record Outside : Type 0 where
+  pub log : Option (List ℕ)
+  pub devices : Devices
+
+abbrev pub outside : Option (List ℕ) → Devices → Outside
+outside log devices = record { log = log; devices = devices }
 
 -- the log grew by all of these bytes, or, where the sink failed, by a front of them
 pub record Writes {T E : Type 0} (old new : Option (List ℕ)) (bytes : List ℕ) (result : Result T E) : Type 0 where

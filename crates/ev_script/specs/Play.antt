@@ -10,36 +10,39 @@ use Rattle.ev_canvas.specs.History.{Showing, Shows, AreReported}
 use Rattle.ev_canvas.specs.Canvas.{Canvas, now_of}
 use Rattle.ev_canvas.specs.Turns.{Setting, State, Turn, opening, starts_of}
 use Rattle.ev_script.specs.Script.{Step, Plays, lost_frames, store_failures}
-use Rattle.ev_script.specs.Outside.{Outside}
+use Rattle.ev_script.specs.Outside.{Devices, Outside}
+use Rattle.ev_script.specs.Session.{frames_of}
 
 -- what the lines of a script say
 abbrev pub script_lines : List ℕ → List Line
 script_lines script = map line_of (lines script)
 
--- The machine plays all lines of the script. The log has grown by the bytes of its replies and the
--- screen by the frames that it shows: each is a full redraw of the scene at its start, outside of what is
--- hidden, and reports in what it differs from the one before. The screen failed at least once for each lost frame, and the
--- store at least once for each load that is told as failed there.
+-- What the devices show of the starts and the replies up to a state. The screen has grown by the frames that were shown: each
+-- is a full redraw of the scene at its start, outside of what is hidden, and reports in what it differs from the one before. The
+-- screen failed at least once for each lost frame, and the store at least once for each load that is told as failed there.
+pub record IsSeen (state : State) (replies : List Answer) (before after : Devices) : Type 0 where
+  pub showings : List Showing
+  pub shows : Shows (starts_of state) showings
+  pub reported : AreReported showings
+  pub screen_grows : GrowsBy before.frames after.frames (frames_of showings)
+  pub losses : RoseBy (lost_frames replies) before.faults after.faults
+  pub failures : RoseBy (store_failures replies) before.store_faults after.store_faults
+
+-- the machine plays all lines of the script, and the log has grown by the bytes of its replies
 pub record IsPlayed (setting : Setting) (script : List ℕ) (before after : Outside) : Type 0 where
   pub replies : List Answer
   pub final : State
   pub plays : Plays setting opening 1 (script_lines script) replies final
   pub log_grows : GrowsBy before.log after.log (text replies)
-  pub showings : List Showing
-  pub shows : Shows (starts_of final) showings
-  pub reported : AreReported showings
-  pub screen_grows : GrowsBy before.frames after.frames (map (λ s. s.frame) showings)
-  pub losses : RoseBy (lost_frames replies) before.faults after.faults
-  pub failures : RoseBy (store_failures replies) before.store_faults after.store_faults
+  pub seen : IsSeen final replies before.devices after.devices
 
 -- the same on a canvas, which then keeps what the machine does
 pub record IsPlayedOn (canvas : Canvas) (setting : Setting) (script : List ℕ) (before after : Outside) : Type 0 where
   pub played : IsPlayed setting script before after
   pub stands : now_of canvas ≡ played.final.now
 
--- The log failed within the replies to a line. The lines before it were played and answered whole; of
--- the replies to this one only a front was written. The screen has grown by the frames that the machine
--- shows up to this line, which is carried out.
+-- The log failed within the replies to a line. The lines before it were played and answered whole; of the replies to this one,
+-- which is carried out, only a front was written.
 pub record IsStopped (setting : Setting) (script : List ℕ) (before after : Outside) : Type 0 where
   pub answered : List Line
   pub last : Line
@@ -54,12 +57,7 @@ pub record IsStopped (setting : Setting) (script : List ℕ) (before after : Out
   pub missing : List ℕ
   pub cut : text turn.replies ≡ written ++ missing
   pub log_grows : GrowsBy before.log after.log (text replies ++ written)
-  pub showings : List Showing
-  pub shows : Shows (starts_of turn.after) showings
-  pub reported : AreReported showings
-  pub screen_grows : GrowsBy before.frames after.frames (map (λ s. s.frame) showings)
-  pub losses : RoseBy (lost_frames (replies ++ turn.replies)) before.faults after.faults
-  pub failures : RoseBy (store_failures (replies ++ turn.replies)) before.store_faults after.store_faults
+  pub seen : IsSeen turn.after (replies ++ turn.replies) before.devices after.devices
 
 -- what the source had left was a script, all of which was read
 pub record IsRead (left left' : Option (List ℕ)) (script : List ℕ) : Type 0 where

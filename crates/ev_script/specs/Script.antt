@@ -1,5 +1,5 @@
 -- The machine that a script drives: what each line may do, and a script line by line.
-use Rattle.std.specs.Prelude.{◌≡◌, ℕ, ◌+◌, List, [], ◌∷◌, ◌++◌}
+use Rattle.std.specs.Prelude.{◌≡◌, ℕ, ◌+◌, List, [], ◌∷◌, ◌++◌, sum_by}
 use Rattle.ev_model.specs.Answer.{Answer, Lost, PreloadFailed, Bad}
 use Rattle.ev_model.specs.declared.refusal.LoadFault.TheVariants as load
 use Rattle.ev_lang.specs.declared.line.Line.{Line}
@@ -14,8 +14,7 @@ losses_of other = 0
 
 -- how many frames these replies tell as lost
 abbrev pub lost_frames : List Answer → ℕ
-lost_frames [] = 0
-lost_frames (reply ∷ replies) = losses_of reply + lost_frames replies
+lost_frames replies = sum_by losses_of replies
 
 -- how many loads a reply tells as failed in the store
 abbrev pub store_failures_of : Answer → ℕ
@@ -24,8 +23,7 @@ store_failures_of other = 0
 
 -- how many loads these replies tell as failed in the store
 abbrev pub store_failures : List Answer → ℕ
-store_failures [] = 0
-store_failures (reply ∷ replies) = store_failures_of reply + store_failures replies
+store_failures replies = sum_by store_failures_of replies
 
 -- what line n may do in this setting
 abbrev pub Step : Setting → State → ℕ → Line → Turn → Type 0

@@ -1,7 +1,8 @@
 -- A line that is carried out on a canvas, and the turn of the machine that it takes.
-use Rattle.std.specs.Prelude.{◌≡◌, ℕ, ◌+◌, ◌<◌, false, List, [], ◌++◌, map, Option, Result}
+use Rattle.std.specs.Prelude.{◌≡◌, ℕ, ◌+◌, ◌<◌, false, List, [], ◌++◌, map, reverse, Option, Result}
 use Rattle.ev_port.specs.Told.{GrowsBy}
 use Rattle.ev_port.specs.Causes.{RoseBy}
+use Rattle.ev_port.specs.Frame.{Frame}
 use Rattle.ev_port.specs.declared.file.StoredFile.{StoredFile}
 use Rattle.ev_model.specs.Answer.{Answer}
 use Rattle.ev_model.specs.Text.{text}
@@ -33,9 +34,13 @@ pub record IsReady (canvas : Canvas) (n : ℕ) : Type 0 where
   pub events : canvas.events ≡ []
   pub idle : runs canvas.frames.newest ≡ false
 
--- what was shown earlier and these are all that was shown of the starts
+-- these and what was shown earlier are all that was shown of the starts
 abbrev pub ShowsMore : State → State → List Showing → Type 0
-ShowsMore old new showings = (earlier : List Showing) → Shows (starts_of old) earlier → Shows (starts_of new) (earlier ++ showings)
+ShowsMore old new showings = (earlier : List Showing) → Shows (starts_of old) earlier → Shows (starts_of new) (showings ++ earlier)
+
+-- the frames of what was shown, the newest last
+abbrev pub frames_of : List Showing → List Frame
+frames_of showings = map (λ s. s.frame) (reverse showings)
 
 -- Line n takes the state for which the old canvas stands to one for which the new canvas does, with these
 -- replies. The screen has grown by what the machine shows, and failed at least once for each lost frame;
@@ -45,7 +50,7 @@ pub record TakesTurn (setting : Setting) (n : ℕ) (line : Line) (before after :
   pub step : Step setting (state_of old older) n line (record { replies = replies; after = state_of new starts })
   pub showings : List Showing
   pub shows_more : ShowsMore (state_of old older) (state_of new starts) showings
-  pub screen_grows : GrowsBy before.frames after.frames (map (λ s. s.frame) showings)
+  pub screen_grows : GrowsBy before.frames after.frames (frames_of showings)
   pub losses : RoseBy (lost_frames replies) before.faults after.faults
   pub failures : RoseBy (store_failures replies) before.store_faults after.store_faults
 

@@ -3,7 +3,7 @@ use Rattle.std.specs.Prelude.{◌≡◌, ◌⊎◌, ℕ, Bool, true, false, nat_
 use denote.Bor.{Bor}
 use Rattle.ev_port.specs.Told.{counted}
 use Rattle.ev_script.specs.declared.alone.Status.{Status}
-use Rattle.ev_script.specs.declared.alone.Status.TheVariants.{Ok, Usage, ReadFault, WriteFault, NoMemory, TooLong}
+use Rattle.ev_script.specs.declared.alone.Status.TheVariants.{Ok, Usage, WriteFault, NoMemory, TooLong}
 
 -- the texts behind references
 abbrev pub texts : List (Bor (List ℕ)) → List (List ℕ)
@@ -12,27 +12,16 @@ texts words = map (λ word. word.now) words
 -- whether a run ended before the first line
 abbrev pub is_before_lines : Status → Bool
 is_before_lines Ok = false
-is_before_lines Usage = true
-is_before_lines ReadFault = true
 is_before_lines WriteFault = false
-is_before_lines NoMemory = true
-is_before_lines TooLong = true
+is_before_lines other = true
 
 abbrev pub is_too_long : Status → Bool
-is_too_long Ok = false
-is_too_long Usage = false
-is_too_long ReadFault = false
-is_too_long WriteFault = false
-is_too_long NoMemory = false
 is_too_long TooLong = true
+is_too_long other = false
 
 abbrev pub is_usage : Status → Bool
-is_usage Ok = false
 is_usage Usage = true
-is_usage ReadFault = false
-is_usage WriteFault = false
-is_usage NoMemory = false
-is_usage TooLong = false
+is_usage other = false
 
 -- so many bytes were taken, as far as the count tells, and the script was too long exactly where they are more than it may have
 pub record Takes (before now : ℕ) (too_long : Bool) : Type 0 where

@@ -6,14 +6,12 @@ ghost use Rattle.ev_model.specs.Limits.{IsCommand};
 ghost use Rattle.ev_model.specs.declared.command.Command.TheVariants as command;
 ghost use Rattle.ev_lang.specs.Value.{IsLine};
 ghost use Rattle.ev_lang.specs.declared.line.Line.TheVariants as line;
-ghost use Rattle.ev_canvas.specs.CanvasFrames.{picture_refusal};
 ghost use Rattle.ev_canvas.specs.Turns.{start_refusal};
 ghost use Rattle.ev_script.specs.Outside.{devices};
 ghost use Rattle.ev_script.specs.Session.{IsReady, Acts};
-ghost use Rattle.ev_script.specs.LineReplies.{of_picture, of_flush};
 
-use crate::outcome::{Outcome, of_change};
-use ev_canvas::{Canvas, Flushed, NoPicture, StartErr};
+use crate::outcome::Outcome;
+use ev_canvas::{Canvas, StartErr};
 use ev_lang::Line;
 use ev_model::{BadLine, Command, Name, Refusal};
 use ev_port::{Screen, Store};
@@ -38,7 +36,7 @@ pub(crate) fn act<T: Store, P: Screen>(
         canvas.old canvas.new result }
 {
     match line {
-        Line::Empty => Outcome::Nothing,
+        Line::Empty => Outcome::Done(Ok(())),
         Line::Bad(fault) => Outcome::Bad(*fault),
         Line::Command(command) => obey(alloc, canvas, command, store, screen),
     }
@@ -62,17 +60,17 @@ fn obey<T: Store, P: Screen>(
         canvas.old canvas.new result }
 {
     match command {
-        Command::Edit(edit) => of_change(canvas.edit(edit)),
-        Command::Damage { x, y, w, h } => of_change(canvas.damage(*x, *y, *w, *h)),
-        Command::HideArea { x, y, w, h } => of_change(canvas.hide_area(*x, *y, *w, *h)),
+        Command::Edit(edit) => Outcome::Done(canvas.edit(edit)),
+        Command::Damage { x, y, w, h } => Outcome::Done(canvas.damage(*x, *y, *w, *h)),
+        Command::HideArea { x, y, w, h } => Outcome::Done(canvas.hide_area(*x, *y, *w, *h)),
         Command::ClearAreas => {
             canvas.clear_areas();
-            Outcome::Nothing
+            Outcome::Done(Ok(()))
         }
         Command::Load(name) => load(alloc, canvas, name, store),
         Command::Render => render(canvas, screen),
-        Command::Dump => of_picture(canvas, Outcome::Rows),
-        Command::Sum => of_picture(canvas, Outcome::Totals),
+        Command::Dump => Outcome::Rows,
+        Command::Sum => Outcome::Totals,
         Command::Preload(_)
         | Command::Cancel(_)
         | Command::Serve
@@ -81,17 +79,6 @@ fn obey<T: Store, P: Screen>(
         | Command::Poll
         | Command::Wait
         | Command::Stats => Outcome::Bad(BadLine::Word),
-    }
-}
-
-// What is to be told of the picture drawn last, or why there is none.
-fn of_picture(canvas: &Canvas, asked: Outcome) -> Outcome
-    ensures { result ≡ of_picture (picture_refusal canvas.now.frames.newest) asked }
-{
-    match canvas.picture() {
-        Ok(_) => asked,
-        Err(NoPicture::Busy) => Outcome::Refused(Refusal::Busy),
-        Err(NoPicture::NoFrame) => Outcome::Refused(Refusal::NoFrame),
     }
 }
 
@@ -106,11 +93,12 @@ fn load<T: Store>(alloc: Global, canvas: &mut Canvas, name: &Name, store: &mut T
 {
     let job = match canvas.preload(name) {
         Ok(job) => job,
-        Err(cause) => return Outcome::Refused(cause),
+        Err(cause) => return Outcome::Done(Err(cause)),
     };
     let end = load_one(alloc, store, &job);
-    canvas.hold(job.number(), end);
-    canvas.collect(job.number());
+    let number = job.number();
+    canvas.hold(number, end);
+    canvas.collect(number);
     let Some(event) = canvas.next_event() else {
         unreachable!()
     };
@@ -120,17 +108,15 @@ fn load<T: Store>(alloc: Global, canvas: &mut Canvas, name: &Name, store: &mut T
 // A frame that is started and flushed.
 fn render<P: Screen>(canvas: &mut Canvas, screen: &mut P) -> Outcome
     requires ready { IsReady canvas.old (2 ^ 40) }
-    ensures { (files : Option (List StoredFile)) (faults : ℕ) → Acts (line.Command command.Render)
+    ensures { (files : Option (List StoredFile)) (faults : ℕ)
+        → Acts (line.Command command.Render)
         (devices (P.shown screen.old) (P.faults screen.old) files faults)
         (devices (P.shown screen.new) (P.faults screen.new) files faults)
         canvas.old canvas.new result }
 {
     match canvas.start() {
-        Ok(_) => {
-            let flushed = canvas.flush(screen);
-            of_flush(flushed, canvas.frames())
-        }
-        Err(cause) => Outcome::Refused(refusal_of(cause)),
+        Ok(_) => Outcome::Flushed(canvas.flush(screen)),
+        Err(cause) => Outcome::Done(Err(refusal_of(cause))),
     }
 }
 
@@ -141,15 +127,5 @@ fn refusal_of(cause: StartErr) -> Refusal
     match cause {
         StartErr::Busy => Refusal::Busy,
         StartErr::NoMemory => Refusal::NoMemory,
-    }
-}
-
-// The frame of this number was flushed.
-fn of_flush(flushed: Flushed, n: u64) -> Outcome
-    ensures { result ≡ of_flush flushed n }
-{
-    match flushed {
-        Flushed::Shown => Outcome::Shown { n },
-        Flushed::Lost { .. } => Outcome::Lost { n },
     }
 }

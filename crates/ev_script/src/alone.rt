@@ -1,7 +1,7 @@
 // The top call on one thread.
 ghost use Rattle.std.specs.Prelude.{◌≡◌, ◌≤◌, ◌<◌, ◌^◌, false, true, not, length};
 ghost use Rattle.ev_port.specs.Causes.{Rose};
-ghost use Rattle.ev_script.specs.Outside.{outside};
+ghost use Rattle.ev_script.specs.Outside.{outside, devices};
 ghost use Rattle.ev_script.specs.ScreenFrames.{ShowsInOrder};
 ghost use Rattle.ev_script.specs.Play.{IsPlayed, IsStopped, OfScript};
 ghost use Rattle.ev_script.specs.Session.{setting};
@@ -32,10 +32,10 @@ pub enum Status {
     TooLong,
 }
 
-/// Reads a script from the source to its end, carries out its lines one after another, writes its log
-/// to the sink and shows its frames on the screen; images and fonts come from the store (docs/SCRIPT.md,
-/// docs/CANVAS.md). `words` are those of the command line. Of these `--cell` has its effect; whatever
-/// they say of buffers and workers, the caller itself draws each frame whole.
+/// Reads a script from the source to its end, carries out its lines one after another, writes its
+/// log to the sink and shows its frames on the screen; images and fonts come from the store
+/// (docs/SCRIPT.md, docs/CANVAS.md). `words` are those of the command line. Of these `--cell` has
+/// its effect; whatever they say of buffers and workers, the caller itself draws each frame whole.
 pub fn run_alone<S: Source, K: Sink, T: Store, P: Screen>(
     alloc: Global,
     words: &[&str],
@@ -47,17 +47,17 @@ pub fn run_alone<S: Source, K: Sink, T: Store, P: Screen>(
     ensures played { result ≡ Status.Ok → OfScript
         (IsPlayed (setting (setup_of (options_of (texts words.now))) (T.files store.old)))
         (S.left source.old) (S.left source.new)
-        (outside (K.written sink.old) (P.shown screen.old) (P.faults screen.old)
-        (T.faults store.old))
-        (outside (K.written sink.new) (P.shown screen.new) (P.faults screen.new)
-        (T.faults store.new)) }
+        (outside (K.written sink.old) (devices (P.shown screen.old) (P.faults screen.old)
+        (T.files store.old) (T.faults store.old)))
+        (outside (K.written sink.new) (devices (P.shown screen.new) (P.faults screen.new)
+        (T.files store.new) (T.faults store.new))) }
     ensures stopped { result ≡ Status.WriteFault → OfScript
         (IsStopped (setting (setup_of (options_of (texts words.now))) (T.files store.old)))
         (S.left source.old) (S.left source.new)
-        (outside (K.written sink.old) (P.shown screen.old) (P.faults screen.old)
-        (T.faults store.old))
-        (outside (K.written sink.new) (P.shown screen.new) (P.faults screen.new)
-        (T.faults store.new)) }
+        (outside (K.written sink.old) (devices (P.shown screen.old) (P.faults screen.old)
+        (T.files store.old) (T.faults store.old)))
+        (outside (K.written sink.new) (devices (P.shown screen.new) (P.faults screen.new)
+        (T.files store.new) (T.faults store.new))) }
     ensures in_order { ShowsInOrder (P.shown screen.old) (P.shown screen.new) }
     ensures usage { is_usage result ≡ not (are_pairs (texts words.now)) }
     ensures read_fault { result ≡ Status.ReadFault
@@ -102,16 +102,16 @@ fn play_on_new<K: Sink, T: Store, P: Screen>(
     requires short { length script.now ≤ 16777216 }
     ensures played { result ≡ Status.Ok → IsPlayed
         (setting (setup_of options) (T.files store.old)) script.now
-        (outside (K.written sink.old) (P.shown screen.old) (P.faults screen.old)
-        (T.faults store.old))
-        (outside (K.written sink.new) (P.shown screen.new) (P.faults screen.new)
-        (T.faults store.new)) }
+        (outside (K.written sink.old) (devices (P.shown screen.old) (P.faults screen.old)
+        (T.files store.old) (T.faults store.old)))
+        (outside (K.written sink.new) (devices (P.shown screen.new) (P.faults screen.new)
+        (T.files store.new) (T.faults store.new))) }
     ensures stopped { result ≡ Status.WriteFault → IsStopped
         (setting (setup_of options) (T.files store.old)) script.now
-        (outside (K.written sink.old) (P.shown screen.old) (P.faults screen.old)
-        (T.faults store.old))
-        (outside (K.written sink.new) (P.shown screen.new) (P.faults screen.new)
-        (T.faults store.new)) }
+        (outside (K.written sink.old) (devices (P.shown screen.old) (P.faults screen.old)
+        (T.files store.old) (T.faults store.old)))
+        (outside (K.written sink.new) (devices (P.shown screen.new) (P.faults screen.new)
+        (T.files store.new) (T.faults store.new))) }
     ensures in_order { ShowsInOrder (P.shown screen.old) (P.shown screen.new) }
     ensures usage { is_usage result ≡ false }
     ensures too_long { is_too_long result ≡ false }

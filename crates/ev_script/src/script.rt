@@ -2,7 +2,7 @@
 ghost use Rattle.std.specs.Prelude.{◌≡◌, ◌≤◌, length, []};
 ghost use Rattle.ev_port.specs.Causes.{Rose};
 ghost use Rattle.ev_canvas.specs.Canvas.{opened};
-ghost use Rattle.ev_script.specs.Outside.{outside};
+ghost use Rattle.ev_script.specs.Outside.{outside, devices};
 ghost use Rattle.ev_script.specs.ScreenFrames.{ShowsInOrder};
 ghost use Rattle.ev_script.specs.Session.{setting};
 ghost use Rattle.ev_script.specs.Play.{IsPlayedOn, IsStopped};
@@ -24,8 +24,8 @@ pub enum Played {
 
 /// Carries out the lines of a script one after another on a canvas that is as it was created
 /// (docs/SCRIPT.md, docs/CANVAS.md). The script has at most 16,777,216 bytes. Afterwards the canvas
-/// has the scene, the rectangles given and hidden, the starts and the loads that the lines leave, its
-/// setup stays, and all its events have been taken.
+/// has the scene, the rectangles given and hidden, the starts and the loads that the lines leave,
+/// its setup stays, and all its events have been taken.
 pub fn play_alone<K: Sink, T: Store, P: Screen>(
     alloc: Global,
     canvas: &mut Canvas,
@@ -38,16 +38,16 @@ pub fn play_alone<K: Sink, T: Store, P: Screen>(
     requires short { length script.now ≤ 16777216 }
     ensures played { result ≡ Played.Ok → IsPlayedOn canvas.new
         (setting canvas.old.setup (T.files store.old)) script.now
-        (outside (K.written sink.old) (P.shown screen.old) (P.faults screen.old)
-        (T.faults store.old))
-        (outside (K.written sink.new) (P.shown screen.new) (P.faults screen.new)
-        (T.faults store.new)) }
+        (outside (K.written sink.old) (devices (P.shown screen.old) (P.faults screen.old)
+        (T.files store.old) (T.faults store.old)))
+        (outside (K.written sink.new) (devices (P.shown screen.new) (P.faults screen.new)
+        (T.files store.new) (T.faults store.new))) }
     ensures stopped { result ≡ Played.WriteFault → IsStopped
         (setting canvas.old.setup (T.files store.old)) script.now
-        (outside (K.written sink.old) (P.shown screen.old) (P.faults screen.old)
-        (T.faults store.old))
-        (outside (K.written sink.new) (P.shown screen.new) (P.faults screen.new)
-        (T.faults store.new)) }
+        (outside (K.written sink.old) (devices (P.shown screen.old) (P.faults screen.old)
+        (T.files store.old) (T.faults store.old)))
+        (outside (K.written sink.new) (devices (P.shown screen.new) (P.faults screen.new)
+        (T.files store.new) (T.faults store.new))) }
     ensures setup { canvas.new.setup ≡ canvas.old.setup }
     ensures files { T.files store.new ≡ T.files store.old }
     ensures taken { canvas.new.events ≡ [] }

@@ -12,8 +12,8 @@ use ev_lang::Line;
 use ev_port::{Failed, Screen, Sink, Store};
 use std::alloc::Global;
 
-/// Carries out line number `number` by docs/SCRIPT.md, "Commands". Failed: the sink failed within the
-/// replies to this line, which is carried out all the same.
+/// Carries out line number `number` by docs/SCRIPT.md, "Commands". Failed: the sink failed within
+/// the replies to this line, which is carried out all the same.
 pub fn carry_out<K: Sink, T: Store, P: Screen>(
     alloc: Global,
     canvas: &mut Canvas,

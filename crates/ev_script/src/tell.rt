@@ -1,36 +1,38 @@
 // What the log tells of a line.
-ghost use Rattle.std.specs.Prelude.{◌≡◌, [], ◌∷◌};
+ghost use Rattle.std.specs.Prelude.{◌≡◌, [], ◌∷◌, false};
 ghost use Rattle.ev_port.specs.Causes.{HasCause};
-ghost use Rattle.ev_model.specs.Answer.{answer};
+ghost use Rattle.ev_model.specs.Answer.{answer, Refused};
 ghost use Rattle.ev_model.specs.Text.{text};
 ghost use Rattle.ev_canvas.specs.Events.{told_event};
-ghost use Rattle.ev_canvas.specs.Turns.{rows, sums};
+ghost use Rattle.ev_canvas.specs.CanvasFrames.{runs};
+ghost use Rattle.ev_canvas.specs.Turns.{printed, picture_cause, rows, sums, told_flush};
 ghost use Rattle.ev_script.specs.Outside.{Writes};
-ghost use Rattle.ev_script.specs.LineReplies.{told, shown_frame, of_drawn};
+ghost use Rattle.ev_script.specs.LineReplies.{told};
 
 use crate::outcome::Outcome;
 use crate::picture::write_rows;
 use crate::totals::Totals;
-use ev_canvas::{Canvas, Event};
+use ev_canvas::{Canvas, Event, Flushed, NoPicture};
 use ev_lang::write_reply;
-use ev_model::Reply;
+use ev_model::{Refusal, Reply};
 use ev_port::{Failed, Sink};
 
-/// Tells the outcome of line `number` to the log, of the canvas as the line left it (docs/SCRIPT.md,
-/// "The log"). Failed: the sink failed, and took a front of the replies.
+/// Tells the outcome of line `number` to the log, of the canvas as the line left it, where no frame
+/// is running (docs/SCRIPT.md, "The log"). Failed: the sink failed, and took a front of the
+/// replies.
 pub(crate) fn tell<K: Sink>(
     sink: &mut K,
     canvas: &Canvas,
     outcome: &Outcome,
     number: u64,
 ) -> Result<(), Failed>
+    requires ended { runs canvas.now.frames.newest ≡ false }
     ensures told { Writes (K.written sink.old) (K.written sink.new)
         (text (told canvas.now number outcome.now)) result }
     ensures cause { HasCause (K.faults sink.old) (K.faults sink.new) result }
 {
     let line = number;
     match outcome {
-        Outcome::Nothing => Ok(()),
         Outcome::Bad(fault) => tell_one(
             sink,
             &Reply::Bad {
@@ -38,18 +40,12 @@ pub(crate) fn tell<K: Sink>(
                 line,
             },
         ),
-        Outcome::Refused(cause) => tell_one(
-            sink,
-            &Reply::Refused {
-                cause: *cause,
-                line,
-            },
-        ),
-        Outcome::Shown { n } => tell_shown(sink, canvas, *n),
-        Outcome::Lost { n } => tell_one(sink, &Reply::Lost { n: *n }),
+        Outcome::Done(Ok(())) => Ok(()),
+        Outcome::Done(Err(cause)) => tell_refused(sink, *cause, line),
+        Outcome::Flushed(flushed) => tell_flush(sink, canvas, *flushed),
         Outcome::Event(event) => tell_one(sink, &reply_of(event)),
-        Outcome::Rows => tell_rows(sink, canvas),
-        Outcome::Totals => tell_totals(sink, canvas),
+        Outcome::Rows => tell_rows(sink, canvas, line),
+        Outcome::Totals => tell_totals(sink, canvas, line),
     }
 }
 
@@ -60,6 +56,15 @@ fn tell_one<K: Sink>(sink: &mut K, reply: &Reply) -> Result<(), Failed>
     ensures cause { HasCause (K.faults sink.old) (K.faults sink.new) result }
 {
     write_reply(sink, reply)
+}
+
+// A refusal.
+fn tell_refused<K: Sink>(sink: &mut K, cause: Refusal, line: u64) -> Result<(), Failed>
+    ensures told { Writes (K.written sink.old) (K.written sink.new)
+        (text (Refused cause line ∷ [])) result }
+    ensures cause { HasCause (K.faults sink.old) (K.faults sink.new) result }
+{
+    tell_one(sink, &Reply::Refused { cause, line })
 }
 
 // The reply that tells an event.
@@ -76,42 +81,55 @@ fn reply_of(event: &Event) -> Reply<'static>
     }
 }
 
-// Frame n, which was shown, with its updates.
-fn tell_shown<K: Sink>(sink: &mut K, canvas: &Canvas, n: u64) -> Result<(), Failed>
+// The end of the newest start's frame.
+fn tell_flush<K: Sink>(sink: &mut K, canvas: &Canvas, flushed: Flushed) -> Result<(), Failed>
+    requires ended { runs canvas.now.frames.newest ≡ false }
     ensures told { Writes (K.written sink.old) (K.written sink.new)
-        (text (of_drawn (shown_frame n) canvas.now.frames.newest)) result }
+        (text (told_flush flushed canvas.now.frames.newest)) result }
     ensures cause { HasCause (K.faults sink.old) (K.faults sink.new) result }
 {
-    match canvas.picture() {
-        Ok(picture) => {
-            let (w, h) = (picture.width(), picture.height());
-            let updates = canvas.updates();
-            tell_one(sink, &Reply::Shown { n, w, h, updates })
-        }
-        Err(_) => Ok(()),
+    let Ok(picture) = canvas.picture() else {
+        return Ok(());
+    };
+    let n = canvas.frames();
+    let (w, h) = (picture.width(), picture.height());
+    let updates = canvas.updates();
+    match flushed {
+        Flushed::Shown => tell_one(sink, &Reply::Shown { n, w, h, updates }),
+        Flushed::Lost { .. } => tell_one(sink, &Reply::Lost { n }),
     }
 }
 
-// The rows of the picture drawn last, with what is hidden from it.
-fn tell_rows<K: Sink>(sink: &mut K, canvas: &Canvas) -> Result<(), Failed>
+// The rows of the picture drawn last, with what is hidden from it, or why there is none.
+fn tell_rows<K: Sink>(sink: &mut K, canvas: &Canvas, line: u64) -> Result<(), Failed>
     ensures told { Writes (K.written sink.old) (K.written sink.new)
-        (text (of_drawn rows canvas.now.frames.newest)) result }
+        (text (printed rows line canvas.now.frames.newest)) result }
     ensures cause { HasCause (K.faults sink.old) (K.faults sink.new) result }
 {
     match canvas.picture() {
         Ok(picture) => write_rows(sink, picture, canvas.hidden()),
-        Err(_) => Ok(()),
+        Err(cause) => tell_refused(sink, cause_of(cause), line),
     }
 }
 
-// The totals of the picture drawn last, without what is hidden from it.
-fn tell_totals<K: Sink>(sink: &mut K, canvas: &Canvas) -> Result<(), Failed>
+// The totals of the picture drawn last, without what is hidden from it, or why there is none.
+fn tell_totals<K: Sink>(sink: &mut K, canvas: &Canvas, line: u64) -> Result<(), Failed>
     ensures told { Writes (K.written sink.old) (K.written sink.new)
-        (text (of_drawn sums canvas.now.frames.newest)) result }
+        (text (printed sums line canvas.now.frames.newest)) result }
     ensures cause { HasCause (K.faults sink.old) (K.faults sink.new) result }
 {
     match canvas.picture() {
         Ok(picture) => tell_one(sink, &Totals::of(picture, canvas.hidden()).reply()),
-        Err(_) => Ok(()),
+        Err(cause) => tell_refused(sink, cause_of(cause), line),
+    }
+}
+
+// Why there is no picture.
+fn cause_of(cause: NoPicture) -> Refusal
+    ensures { result ≡ picture_cause cause }
+{
+    match cause {
+        NoPicture::Busy => Refusal::Busy,
+        NoPicture::NoFrame => Refusal::NoFrame,
     }
 }

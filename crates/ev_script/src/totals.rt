@@ -12,8 +12,8 @@ use ev_model::Reply;
 use ev_region::Region;
 use std::marker::Model;
 
-/// Totals of pixels: of each channel, and of all channels, where each pixel counts by its place from 1
-/// on, row by row (docs/SCRIPT.md, "The log").
+/// Totals of pixels: of each channel, and of all channels, where each pixel counts by its place
+/// from 1 on, row by row (docs/SCRIPT.md, "The log").
 #[derive(Drop)]
 pub struct Totals {
     count: u64,

@@ -48,10 +48,10 @@ impl From<AllocError> for BadWords {
     }
 }
 
-/// Reads what the words of a run ask for: `--workers` with 0 to 16, `--buffers` with 1 to 3 and `--cell`
-/// with 1, 2, 4, 8, 16, 32 or 64. Without them it is 2 workers, 2 buffers and 8 pixels. `Usage`: exactly
-/// where the words aren't pairs of an option and a value that it takes, each option at most once
-/// (docs/SCRIPT.md, Words). It takes no memory.
+/// Reads what the words of a run ask for: `--workers` with 0 to 16, `--buffers` with 1 to 3 and
+/// `--cell` with 1, 2, 4, 8, 16, 32 or 64. Without them it is 2 workers, 2 buffers and 8 pixels.
+/// `Usage`: exactly where the words aren't pairs of an option and a value that it takes, each
+/// option at most once (docs/SCRIPT.md, Words). It takes no memory.
 pub fn read_words(words: &[&str]) -> Result<Options, BadWords>
     ensures { result ≡ (if are_pairs (texts words.now)
         then Ok (options_of (texts words.now)) else Err BadWords.Usage) }
@@ -77,8 +77,8 @@ pub(crate) fn options_of(words: &[&str]) -> Options
     }
 }
 
-/// Reads the folders that the words of a run name, with `--store` and `--frames`. `Usage`: exactly as
-/// `read_words` answers it. `NoMemory`: there was no room for their names.
+/// Reads the folders that the words of a run name, with `--store` and `--frames`. `Usage`: exactly
+/// as `read_words` answers it. `NoMemory`: there was no room for their names.
 pub fn read_folders(alloc: Global, words: &[&str]) -> Result<Folders, BadWords>
     ensures usage { IsErrOf result BadWords.Usage ↔ are_pairs (texts words.now) ≡ false }
     ensures store { IfOk result (λ folders. option_map string_bytes folders.store

@@ -1,28 +1,34 @@
-use Rattle.std.proofs.Common.{rules, refl, ap, w64}
+use Rattle.std.proofs.Common.{rules, [], Ok, refl, ap, subst, w64}
 use Rattle.std.proofs.lemmas.Int.{to_z-of_z}
 use mir.Val.{SFits}
 use Rattle.ev_geom.specs.Area.{limited}
 use Rattle.ev_geom.proofs.Areas.{same_area}
 use Rattle.std.specs.List.{range_with_len}
 use Rattle.ev_model.specs.declared.command.Command.TheVariants as command
-use Rattle.ev_canvas.specs.Turns.{rows, sums, stays, place_row}
-use Rattle.ev_script.specs.Session.{state_of}
+use Rattle.ev_lang.specs.declared.line.Line.TheVariants as line
+use Rattle.ev_canvas.specs.Canvas.{now_of}
+use Rattle.ev_canvas.specs.CanvasCalls.{MayDamage, MayHide}
+use Rattle.ev_canvas.specs.Now.{Now}
+use Rattle.ev_canvas.specs.Turns.{rows, sums, place_row}
 use Rattle.ev_script.specs.declared.outcome.Outcome.TheVariants as outcome
-use Rattle.ev_script.proofs.Painting.{rows_lose_none, rows_fail_none}
-use Rattle.ev_script.proofs.Turns.{edit_acts, damage_acts, hide_acts, clear_acts, picture_acts, unbuilt_acts}
+use Rattle.ev_script.proofs.Painting.{rows_quietly}
+use Rattle.ev_script.proofs.Turns.{printed_quietly, still_acts, frames_acts, edit_acts, unbuilt_acts}
 use Rattle.ev_script.proofs.act.obey.Goals as goal
 
 pub returns-in-Edit : goal.returns-in-Edit
-returns-in-Edit g c = rw (c.in-Edit.is, c.of_change.ensures) (edit_acts _ c.in-Edit.edit c.args.canvas.now c.edit.new.self c.edit.result c.requires.ready.running c.edit.ensures.edits c.edit.ensures.setup)
+returns-in-Edit g c = rw c.in-Edit.is (edit_acts _ c.in-Edit.edit c.args.canvas.now c.edit.new.self c.edit.result c.requires.ready.running c.edit.ensures.edits c.edit.ensures.setup)
 
 pub returns-in-ClearAreas : goal.returns-in-ClearAreas
-returns-in-ClearAreas g c = rw c.in-ClearAreas.is (clear_acts _ c.args.canvas.now c.clear_areas.new.self c.clear_areas.ensures.clears c.clear_areas.ensures.alone)
+returns-in-ClearAreas g c =
+    let clears = c.clear_areas.ensures.clears in
+    rw c.in-ClearAreas.is (frames_acts (line.Command command.ClearAreas) _ c.args.canvas.now c.clear_areas.new.self (Ok tt) c.clear_areas.ensures.alone (ap (λ (now : Now). now.frames.newest) clears)
+    (λ n older. ap (λ (now : Now). record { replies = []; after = record { now = now; older = older } }) clears))
 
 pub returns-in-Dump : goal.returns-in-Dump
-returns-in-Dump g c = rw (c.in-Dump.is, c.of_picture.ensures) (picture_acts _ c.args.canvas.now command.Dump rows outcome.Rows (λ settled n older replies is. ap (stays (state_of c.args.canvas.now older)) is) (λ n. refl) (λ entry. rows_lose_none (place_row entry) (range_with_len 0 entry.capture.h)) (λ entry. rows_fail_none (place_row entry) (range_with_len 0 entry.capture.h)))
+returns-in-Dump g c = rw c.in-Dump.is (still_acts (line.Command command.Dump) _ c.args.canvas.now outcome.Rows (λ n older. refl) (λ n. printed_quietly rows (λ entry. rows_quietly (place_row entry) (range_with_len 0 entry.capture.h)) n c.args.canvas.now.frames.newest))
 
 pub returns-in-Sum : goal.returns-in-Sum
-returns-in-Sum g c = rw (c.in-Sum.is, c.of_picture-in-Sum.ensures) (picture_acts _ c.args.canvas.now command.Sum sums outcome.Totals (λ settled n older replies is. ap (stays (state_of c.args.canvas.now older)) is) (λ n. refl) (λ entry. refl) (λ entry. refl))
+returns-in-Sum g c = rw c.in-Sum.is (still_acts (line.Command command.Sum) _ c.args.canvas.now outcome.Totals (λ n older. refl) (λ n. printed_quietly sums (λ entry. record { losses = refl; failures = refl }) n c.args.canvas.now.frames.newest))
 
 pub returns-in-Load : goal.returns-in-Load
 returns-in-Load g c = rw c.in-Load.is (c.load.ensures _ _)
@@ -37,7 +43,8 @@ returns-in-Damage g c =
     let w : SFits w64 c.in-Damage.w = search rules in
     let h : SFits w64 c.in-Damage.h = search rules in
     let area = ap limited (same_area _ _ (to_z-of_z w64 _ x) (to_z-of_z w64 _ y) (to_z-of_z w64 _ w) (to_z-of_z w64 _ h)) in
-    rw (c.in-Damage.is, c.of_change-in-Damage.ensures) (damage_acts _ c.in-Damage.x c.in-Damage.y c.in-Damage.w c.in-Damage.h c.args.canvas.now c.damage.new.self c.damage.result _ area c.damage.ensures.gives c.damage.ensures.alone)
+    rw c.in-Damage.is (frames_acts (line.Command (command.Damage c.in-Damage.x c.in-Damage.y c.in-Damage.w c.in-Damage.h)) _ c.args.canvas.now c.damage.new.self c.damage.result c.damage.ensures.alone (ap (λ (now : Now). now.frames.newest) c.damage.ensures.gives.alone)
+    (λ n older. record { result = c.damage.result; call = subst (λ a. MayDamage (now_of c.args.canvas.now) a c.damage.result (now_of c.damage.new.self)) area c.damage.ensures.gives; tells = refl; older = refl }))
 
 pub returns-in-HideArea : goal.returns-in-HideArea
 returns-in-HideArea g c =
@@ -46,7 +53,8 @@ returns-in-HideArea g c =
     let w : SFits w64 c.in-HideArea.w = search rules in
     let h : SFits w64 c.in-HideArea.h = search rules in
     let area = ap limited (same_area _ _ (to_z-of_z w64 _ x) (to_z-of_z w64 _ y) (to_z-of_z w64 _ w) (to_z-of_z w64 _ h)) in
-    rw (c.in-HideArea.is, c.of_change-in-HideArea.ensures) (hide_acts _ c.in-HideArea.x c.in-HideArea.y c.in-HideArea.w c.in-HideArea.h c.args.canvas.now c.hide_area.new.self c.hide_area.result _ area c.hide_area.ensures.hides c.hide_area.ensures.alone)
+    rw c.in-HideArea.is (frames_acts (line.Command (command.HideArea c.in-HideArea.x c.in-HideArea.y c.in-HideArea.w c.in-HideArea.h)) _ c.args.canvas.now c.hide_area.new.self c.hide_area.result c.hide_area.ensures.alone (ap (λ (now : Now). now.frames.newest) c.hide_area.ensures.hides.alone)
+    (λ n older. record { result = c.hide_area.result; call = subst (λ a. MayHide (now_of c.args.canvas.now) a c.hide_area.result (now_of c.hide_area.new.self)) area c.hide_area.ensures.hides; tells = refl; older = refl }))
 
 pub returns-in-Preload : goal.returns-in-Preload
 returns-in-Preload g c = unbuilt_acts _ c.args.canvas.now c.args.command.now c.in-Preload.is
