@@ -1,4 +1,5 @@
 pub mod Turns
+pub mod Within
 pub mod Lines
 pub mod Blanks
 pub mod Lends

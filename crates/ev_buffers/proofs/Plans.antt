@@ -4,6 +4,7 @@ use Rattle.std.proofs.Math.Seq.{take-length}
 use Rattle.ev_geom.specs.Area.{Area}
 use Rattle.ev_geom.specs.Bands.{has_pixel, IsBandsOf}
 use Rattle.ev_geom.specs.Tiles.{jobs_of}
+use Rattle.ev_region.specs.Count.{LiesWithin}
 use Rattle.ev_buffers.specs.declared.mark.Mark.{Mark}
 use Rattle.ev_buffers.specs.Marks.{IsNextOf}
 use Rattle.ev_buffers.specs.BufferChain.{Chain, Draft, IsPlanOf, next_stale}
@@ -21,14 +22,16 @@ others_of marks (mark ∷ others) e =
     ap (λ k. take k others) n ∙ take-length others ∙ ap (drop 1) e
 
 pub plan_of : (chain now : Chain) (others : List Mark) (mark : Mark) (updates : List Area) (hidden : ℤ → ℤ → Bool) (plan : Draft) → chain ≡ now → others ≡ chain.marks → 1 ≤ length chain.marks → mark ≡ get_or chain.marks 0 mark
+    → LiesWithin now.w now.h (has_pixel updates)
     → IsBandsOf (λ x y. (has_pixel mark.stale x y || has_pixel updates x y) && not (hidden x y)) plan.work
     → IsNextOf updates (take (length others - 1) (drop 1 others)) plan.marks
     → plan.tiles ≡ jobs_of (has_pixel plan.work) chain.w chain.h
     → IsPlanOf now updates hidden plan
-plan_of chain now others mark updates hidden plan view same some first work marks tiles =
+plan_of chain now others mark updates hidden plan view same some first within work marks tiles =
     let stale : mark.stale ≡ next_stale chain.marks = ap (λ m. m.stale) first ∙ sym (next_stale_at chain.marks mark some) in
     subst (λ b. IsPlanOf b updates hidden plan) view
     (record {
+      within = subst (λ b. LiesWithin b.w b.h (has_pixel updates)) (sym view) within;
       work = subst (λ old. IsBandsOf (λ x y. (has_pixel old x y || has_pixel updates x y) && not (hidden x y)) plan.work) stale work;
       marks = subst (λ rest. IsNextOf updates rest plan.marks) (others_of chain.marks others same) marks;
       tiles = tiles;

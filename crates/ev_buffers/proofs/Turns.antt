@@ -13,7 +13,7 @@ or_assoc : (a b c : Bool) → ((a || b) || c) ≡ (a || (b || c))
 or_assoc true b c = refl
 or_assoc false b c = refl
 
-or_false : (a : Bool) → (a || false) ≡ a
+pub or_false : (a : Bool) → (a || false) ≡ a
 or_false true = refl
 or_false false = refl
 
@@ -25,7 +25,7 @@ none_left : (a b : Bool) → (a || b) ≡ false → a ≡ false
 none_left true b h = h
 none_left false b h = refl
 
-none_right : (a b : Bool) → (a || b) ≡ false → b ≡ false
+pub none_right : (a b : Bool) → (a || b) ≡ false → b ≡ false
 none_right true b h = absurd (cc)
 none_right false b h = h
 
@@ -42,7 +42,7 @@ covers true m f = or_true m
 covers false m f = rw (f refl) refl
 
 -- the updates of the marks once the buffer before them was lent
-updated_next : (updates : List Area) (ms ns : List Mark) → IsNextOf updates ms ns → (x y : ℤ) → updated ns x y ≡ (updated ms x y || has_pixel updates x y)
+pub updated_next : (updates : List Area) (ms ns : List Mark) → IsNextOf updates ms ns → (x y : ℤ) → updated ns x y ≡ (updated ms x y || has_pixel updates x y)
 updated_next updates ms [] e x y = absurd e
 updated_next updates [] (n ∷ ns) e x y = rw (e.0, e.1) (or_false (has_pixel updates x y))
 updated_next updates (m ∷ ms) (n ∷ ns) e x y =
@@ -145,7 +145,7 @@ pub covered_new : (w h : ℕ) (ms : List Mark) → IsCovered w h everywhere ms
 covered_new w h [] = tt
 covered_new w h (m ∷ ms) = (λ unused x y xw yh hid. absurd (cc), covered_new w h ms)
 
-updated_none : (whole : ℤ → ℤ → Bool) (ms : List Mark) → AreUnused whole ms → (x y : ℤ) → updated ms x y ≡ false
+pub updated_none : (whole : ℤ → ℤ → Bool) (ms : List Mark) → AreUnused whole ms → (x y : ℤ) → updated ms x y ≡ false
 updated_none whole [] a x y = refl
 updated_none whole (m ∷ ms) a x y = rw (a.1, updated_none whole ms a.2 x y) refl
 

@@ -5,8 +5,9 @@ use Rattle.ev_argb.specs.Grid.{Grid, IsWhole, across, painted_of}
 use Rattle.ev_geom.specs.Area.{Area}
 use Rattle.ev_geom.specs.Bands.{has_pixel, IsBandsOf}
 use Rattle.ev_geom.specs.Tiles.{jobs_of}
+use Rattle.ev_region.specs.Count.{LiesWithin}
 use Rattle.ev_buffers.specs.declared.mark.Mark.{Mark}
-use Rattle.ev_buffers.specs.Marks.{IsStaleSince, IsNextOf}
+use Rattle.ev_buffers.specs.Marks.{AreWithin, IsStaleSince, IsNextOf}
 
 -- the buffers' size, their pictures, of which the last may be lent, and what is kept beside each
 pub record Chain : Type 0 where
@@ -84,7 +85,8 @@ IsLine w h [] = Unit {0}
 IsLine w h (None ∷ pictures) = pictures ≡ []
 IsLine w h (Some picture ∷ pictures) = FitsChain w h picture × IsLine w h pictures
 
--- there are one to three buffers, and what is stale in each is what was updated since its last use
+-- there are one to three buffers, what was updated lies in their pictures, and what is stale in each is what was updated since its
+-- last use
 pub record IsChain (chain : Chain) : Type 0 where
   pub width_low : 1 ≤ chain.w
   pub width_high : chain.w ≤ 4096
@@ -94,14 +96,16 @@ pub record IsChain (chain : Chain) : Type 0 where
   pub few : length chain.marks ≤ 3
   pub paired : length chain.pictures ≡ length chain.marks
   pub line : IsLine chain.w chain.h chain.pictures
+  pub within : AreWithin chain.w chain.h chain.marks
   pub stale : IsStaleSince chain.w chain.h chain.marks
 
 -- the pixels that are stale in the next buffer or updated now, without the hidden ones
 abbrev pub to_draw : List Mark → List Area → (ℤ → ℤ → Bool) → ℤ → ℤ → Bool
 to_draw marks updates hidden x y = (has_pixel (next_stale marks) x y || has_pixel updates x y) && not (hidden x y)
 
--- These buffers make this plan for these updates and hidden pixels.
+-- These buffers make this plan for these updates, which lie in their pictures, and hidden pixels.
 pub record IsPlanOf (chain : Chain) (updates : List Area) (hidden : ℤ → ℤ → Bool) (plan : Draft) : Type 0 where
+  pub within : LiesWithin chain.w chain.h (has_pixel updates)
   pub work : IsBandsOf (to_draw chain.marks updates hidden) plan.work
   pub marks : IsNextOf updates (drop 1 chain.marks) plan.marks
   pub tiles : plan.tiles ≡ jobs_of (has_pixel plan.work) chain.w chain.h

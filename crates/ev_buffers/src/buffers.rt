@@ -2,6 +2,7 @@
 ghost use Rattle.std.specs.Prelude.{◌≡◌, ◌+◌, ◌≤◌, ◌||◌, ◌&&◌, not, drop, length, true, false, Some, None, IfOk, IfSome, MatchOption};
 ghost use Rattle.ev_argb.specs.Grid.{IsWhole, painted_of};
 ghost use Rattle.ev_geom.specs.Bands.{has_pixel, IsBandsOf};
+ghost use Rattle.ev_region.specs.Count.{LiesWithin};
 
 use crate::NoMemory;
 use crate::jobs::jobs;
@@ -72,12 +73,15 @@ impl Buffers {
         self.marks.len() as u32
     }
 
-    /// What a frame with these updates has to draw on the next buffer: what is stale there and what
-    /// was updated now, but for the hidden pixels. The plan has all the memory that lending takes.
-    /// NoMemory where there is no room for it (docs/ARCHITECTURE.md, Buffers).
+    /// What a frame with these updates, which lie in the pictures, has to draw on the next buffer: what
+    /// is stale there and what was updated now, but for the hidden pixels. The plan has all the memory
+    /// that lending takes. NoMemory where there is no room for it (docs/ARCHITECTURE.md, Buffers).
     pub fn plan(&self, alloc: Global, updates: &Region, hidden: &Region) -> Result<Plan, NoMemory>
+        requires within { LiesWithin self.now.w self.now.h (has_pixel updates.now) }
         ensures made { IfOk result (IsPlanOf self.now updates.now (has_pixel hidden.now)) }
         ensures repairs { IfOk result (Repairs self.now updates.now (has_pixel hidden.now)) }
+        ensures work { IfOk result
+            (λ plan. LiesWithin self.now.w self.now.h (has_pixel plan.work)) }
     {
         let work = work_region(&self.marks[0].stale, updates, hidden)?;
         let marks = Mark::next_marks(alloc, &self.marks[1..], updates)?;

@@ -1,5 +1,7 @@
 // Frames on two buffers, against the areas that have to be drawn.
 ghost use Rattle.std.specs.Prelude.{◌≡◌, false};
+ghost use Rattle.ev_geom.specs.Bands.{has_pixel};
+ghost use Rattle.ev_region.specs.Count.{LiesWithin};
 ghost use Rattle.ev_buffers.specs.BufferChain.{is_lent};
 
 use crate::{Buffers, NoMemory};
@@ -15,8 +17,11 @@ fn frame(
     updates: &Region,
     hidden: &Region,
 ) -> Result<u64, NoMemory>
-    requires { is_lent buffers.old ≡ false }
-    ensures { is_lent buffers.new ≡ false }
+    requires home { is_lent buffers.old ≡ false }
+    requires within { LiesWithin buffers.old.w buffers.old.h (has_pixel updates.now) }
+    ensures home { is_lent buffers.new ≡ false }
+    ensures width { buffers.new.w ≡ buffers.old.w }
+    ensures height { buffers.new.h ≡ buffers.old.h }
 {
     let plan = buffers.plan(alloc, updates, hidden)?;
     let area = plan.work().area();

@@ -29,9 +29,9 @@ painted_by stand = stand.given_up + painted_on_all stand.chain + painted_out sta
 -- The buffer of a running frame is lent, and none is lent where no frame is running.
 abbrev pub FitsFrame : ℕ → Chain → Option Running → Type 0
 FitsFrame painted chain None = is_lent chain ≡ false
-FitsFrame painted chain (Some frame) = (is_lent chain ≡ true) × (frame.cut.w ≡ chain.w) × (frame.cut.h ≡ chain.h) × (painted < 2 ^ 63)
+FitsFrame painted chain (Some frame) = (is_lent chain ≡ true) × (frame.cut.w ≡ chain.w) × (frame.cut.h ≡ chain.h) × (painted < 2 ^ 63 + 2 ^ 26)
 
--- what is kept beside a stand: how many pixels were painted in all, which is below 2^63 when a frame starts
+-- what is kept beside a stand: how many pixels were painted in all, which is below 2^63 when a frame starts, new pictures not counted
 pub record FitsStand (painted : ℕ) (stand : Stand) : Type 0 where
   pub width : stand.chain.w ≤ 4096
   pub height : stand.chain.h ≤ 4096

@@ -2,8 +2,9 @@
 ghost use Rattle.std.specs.Prelude.{◌≡◌, ◌+◌, ◌*◌, ◌<◌, ◌≤◌, ◌^◌, min, true, length, is_some, Some, None, IfOk, OnOk, OnErr, IfSome, IsSome, MatchOption};
 ghost use Rattle.ev_geom.specs.Bands.{has_pixel};
 ghost use Rattle.ev_geom.specs.Tiles.{jobs_of};
+ghost use Rattle.ev_region.specs.Count.{LiesWithin};
 ghost use Rattle.ev_cmds.specs.Cuts.{most_painted};
-ghost use Rattle.ev_buffers.specs.BufferChain.{IsPlanOf, IsPlanned, FitsChain, drawn, last_updates, lent_by};
+ghost use Rattle.ev_buffers.specs.BufferChain.{IsPlanOf, IsPlanned, FitsChain, drawn, last_updates, lent_by, painted_on_all};
 ghost use Rattle.ev_buffers.specs.Kept.{IsNew, Repairs, ShowsLast};
 
 use crate::NoMemory;
@@ -95,26 +96,30 @@ impl Easel {
         })
     }
 
-    /// What a frame with these updates has to draw on the next picture: what is stale there or updated
-    /// now, but for the hidden pixels. NoMemory where there is no room for the plan
-    /// (docs/ARCHITECTURE.md, Buffers).
+    /// What a frame with these updates, which lie in the pictures, has to draw on the next picture: what
+    /// is stale there or updated now, but for the hidden pixels. NoMemory where there is no room for
+    /// the plan (docs/ARCHITECTURE.md, Buffers).
     pub fn plan(&self, alloc: Global, updates: &Region, hidden: &Region) -> Result<Plan, NoMemory>
+        requires within { LiesWithin self.now.chain.w self.now.chain.h (has_pixel updates.now) }
         ensures made { IfOk result (IsPlanOf self.now.chain updates.now (has_pixel hidden.now)) }
         ensures repairs { IfOk result (Repairs self.now.chain updates.now (has_pixel hidden.now)) }
+        ensures work { IfOk result
+            (λ plan. LiesWithin self.now.chain.w self.now.chain.h (has_pixel plan.work)) }
     {
         self.buffers.plan(alloc, updates, hidden)
     }
 
     /// Starts a frame by a plan that was made with nothing started since, with the commands of a
     /// capture for its work region: a job for each tile that the work region meets. No frame is
-    /// running, and fewer than 2^63 pixels were painted. NoMemory where there is no room for the jobs,
-    /// and then nothing changes; no later call on the frame takes memory (docs/ARCHITECTURE.md,
-    /// Running frames).
+    /// running, and fewer than 2^63 pixels were painted, those of new pictures not counted. NoMemory
+    /// where there is no room for the jobs, and then nothing changes; no later call on the frame takes
+    /// memory (docs/ARCHITECTURE.md, Running frames).
     pub fn start(&mut self, alloc: Global, plan: Plan, commands: Commands) -> Result<(), NoMemory>
         requires idle { self.old.frame ≡ None }
         requires planned { IsPlanned self.old.chain plan }
         requires commands { AreOn self.old.chain.w self.old.chain.h (has_pixel plan.work) commands }
-        requires painted { painted_by self.old < 2 ^ 63 }
+        requires here { painted_on_all self.old.chain < 2 ^ 63 }
+        requires painted { painted_by self.old < 2 ^ 63 + 2 ^ 26 }
         ensures lent { OnOk result (self.new.chain ≡ lent_by self.old.chain plan) }
         ensures running { OnOk result (IsSome self.new.frame) }
         ensures commands { OnOk result (cut_of self.new.frame ≡ Some commands) }

@@ -147,7 +147,7 @@ impl Frame {
     /// as painted on those that were drawn. This takes no memory.
     pub(crate) fn close(self) -> (Loan, u64)
         requires none { self.jobs ≡ [] }
-        requires painted { self.lent < 2 ^ 63 }
+        requires painted { self.lent < 2 ^ 63 + 2 ^ 26 }
         ensures tiles { tiles_of self.cut.jobs ≡ result.0.tiles }
         ensures width { result.0.picture.w ≡ self.cut.w }
         ensures height { result.0.picture.h ≡ self.cut.h }

@@ -5,6 +5,7 @@ use Rattle.ev_buffers.specs.Marks.{in_picture}
 use Rattle.ev_buffers.specs.BufferChain.{IsLine, AreUnused, is_out, last_picture, painted_at_home}
 use Rattle.ev_buffers.proofs.Blanks.{blank_fits, blank_line, blank_home, blanks_painted}
 use Rattle.ev_buffers.proofs.Turns.{shows_new, covered_new, stale_new}
+use Rattle.ev_buffers.proofs.Within.{within_new}
 use Rattle.ev_buffers.proofs.buffers.Buffers.create.Goals as goal
 
 pub invariant_of-result : goal.invariant_of-result
@@ -21,6 +22,7 @@ invariant_of-result c =
       paired = ap length c.loop-k.invariant.pictures ∙ length-replicate c.loop-k.k (Some (blank_grid c.args.w c.args.h)) ∙ sym c.loop-k.invariant.count;
       line = subst (IsLine c.args.w c.args.h) (sym c.loop-k.invariant.pictures)
           (blank_line c.args.w c.args.h c.loop-k.k (blank_fits c.args.w c.args.h c.requires.width_low c.requires.width_high c.requires.height_low c.requires.height_high));
+      within = within_new c.args.w c.args.h c.loop-k.marks.items unused;
       stale = stale_new c.args.w c.args.h c.loop-k.marks.items unused;
     }
 
