@@ -1,9 +1,15 @@
 pub mod Regions
 pub mod Owing
-mod Drawing
-pub mod Starting
+pub mod Cutting
+pub mod Pictured
+pub mod Missing
+pub mod Setting
 pub mod Loading
 pub mod Sweeping
 pub mod Keeping
+pub mod Ledgers
 pub mod Reporting
+pub mod Following
+pub mod Standing
+pub mod Starting
 pub mod Accounting

@@ -19,10 +19,7 @@ use Rattle.ev_canvas.specs.Starts.{Entry, Latest, Starts, OwesIf, OwesOn, left, 
 use Rattle.ev_canvas.specs.History.{newest_of, AreStarts, AreComparable, Showing, frame_pixel, IsShowing, ShowsFirst, Shows, Reports, AreReported}
 use Rattle.ev_canvas.specs.declared.newest.End.{End}
 use Rattle.ev_canvas.specs.declared.newest.End.TheVariants as end
-
--- a pixel of a canvas lies on it
-on_canvas : (s : Capture) (x y : ℕ) → x < s.w → y < s.h → holds (canvas_on s.w s.h) (pos x) (pos y) ≡ true
-on_canvas s x y column row = grind (arith, ints)
+use Rattle.ev_canvas.proofs.Setting.{on_canvas}
 
 -- what a frame left, or may still leave: all that it owed and what was hidden, unless it was shown
 abbrev unsettled : Latest → ℕ → ℕ → Bool
@@ -65,7 +62,7 @@ unowed_on cell before now given owed x y column row own_before own_now loads wid
     }
 
 -- all of a canvas is owed where its size is another
-unowed_if : (b : Bool) (cell : ℕ) (before : Latest) (now : Capture) (given owed : List Area) (x y : ℕ) → has_size_of before.entry.capture now ≡ b → x < now.w → y < now.h → HaveOwnIds before.entry.capture.looks → HaveOwnIds now.looks → HaveOneLoad before.entry.capture.looks now.looks → OwesIf b cell before now given owed → has_pixel owed (pos x) (pos y) ≡ false → IsSettled before now x y
+pub unowed_if : (b : Bool) (cell : ℕ) (before : Latest) (now : Capture) (given owed : List Area) (x y : ℕ) → has_size_of before.entry.capture now ≡ b → x < now.w → y < now.h → HaveOwnIds before.entry.capture.looks → HaveOwnIds now.looks → HaveOneLoad before.entry.capture.looks now.looks → OwesIf b cell before now given owed → has_pixel owed (pos x) (pos y) ≡ false → IsSettled before now x y
 unowed_if true cell before now given owed x y same column row own_before own_now loads owes unowed =
     unowed_on cell before now given owed x y column row own_before own_now loads (grind (arith, nat_tests, same)) (grind (arith, nat_tests, same)) owes unowed
 unowed_if false cell before now given owed x y same column row own_before own_now loads owes unowed =

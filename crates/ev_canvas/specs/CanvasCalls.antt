@@ -1,5 +1,5 @@
 -- The calls of a canvas: what each may answer and leave. Contracts of `Canvas` and steps of the machine cite them.
-use Rattle.std.specs.Prelude.{◌≡◌, ℕ, ℤ, Bool, true, List, [], Option, is_some, Result}
+use Rattle.std.specs.Prelude.{◌≡◌, ℕ, ℤ, Bool, true, min, List, [], Option, is_some, Result}
 use Rattle.ev_geom.specs.Area.{Area, limited}
 use Rattle.ev_model.specs.Capture.{capture_of}
 use Rattle.ev_model.specs.declared.command.Edit.{Edit}
@@ -8,9 +8,10 @@ use Rattle.ev_preload.specs.Job.{Job}
 use Rattle.ev_preload.specs.Loads.{after_begin, after_hold, after_collect, collected}
 use Rattle.ev_preload.specs.declared.end.LoadEnd.{LoadEnd}
 use Rattle.ev_scene.specs.Board.{named, stage_of}
-use Rattle.ev_canvas.specs.CanvasFrames.{AddsRect, IsStarted, runs, ended, end_of}
+use Rattle.ev_canvas.specs.CanvasFrames.{AddsRect, IsStarted, runs, left_of, stepped, ended, end_of}
 use Rattle.ev_canvas.specs.Loading.{EditsUnless, Collects, is_waiting, kept, gone, asked, stopped, after_stop}
 use Rattle.ev_canvas.specs.Now.{Now}
+use Rattle.ev_canvas.specs.declared.canvas.Setup.{Setup}
 use Rattle.ev_canvas.specs.declared.event.Event.{Event}
 use Rattle.ev_canvas.specs.declared.flush.Flushed.{Flushed}
 use Rattle.ev_canvas.specs.declared.start.Started.{Started}
@@ -42,10 +43,15 @@ pub record MayHide (old : Now) (area : Option Area) (result : Result (Unit {0}) 
 abbrev pub cleared : Now → Now
 cleared old = record old { frames = record old.frames { areas = [] } }
 
--- a frame of the scene is started, on a canvas with cells of this size
-pub record MayStart (cell : ℕ) (old : Now) (result : Result Started StartErr) (new : Now) : Type 0 where
-  pub starts : IsStarted cell old.frames (capture_of (stage_of old.scene)) result new.frames
+-- a frame of the scene is started, on a canvas that is set up so
+pub record MayStart (setup : Setup) (old : Now) (result : Result Started StartErr) (new : Now) : Type 0 where
+  pub starts : IsStarted setup old.frames (capture_of (stage_of old.scene)) result new.frames
   pub alone : new ≡ record old { frames = new.frames }
+
+-- so many jobs of the running frame are drawn, or as many as are left
+pub record MayStep (old : Now) (most result : ℕ) (new : Now) : Type 0 where
+  pub count : result ≡ min most (left_of old.frames)
+  pub draws : new ≡ record old { frames = stepped old.frames result }
 
 -- the running frame is shown or lost
 pub record MayFlush (old : Now) (result : Flushed) (new : Now) : Type 0 where

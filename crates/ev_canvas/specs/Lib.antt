@@ -1,12 +1,15 @@
 pub mod Starts
+pub mod Pictures
 pub mod CanvasFrames
 pub mod Events
 pub mod Loading
 pub mod Now
 pub mod CanvasCalls
+pub mod Ledger
+pub mod Drawings
 pub mod Canvas
 pub mod History
 pub mod Totals
 pub mod Turns
 pub mod Commands
-pub mod Ledger
+pub mod Sound

@@ -1,22 +1,25 @@
 -- What a start captures and owes, and what its frame leaves to the next start.
-use Rattle.std.specs.Prelude.{◌≡◌, ℕ, ◌+◌, ◌==◌, ℤ, Bool, true, false, not, ◌&&◌, ◌||◌, List, Option, Some, None}
+use Rattle.std.specs.Prelude.{◌≡◌, ℕ, zero, suc, ◌+◌, ◌*◌, ◌==◌, ℤ, Bool, true, false, not, ◌&&◌, ◌||◌, List, [], ◌∷◌, length, Option, Some, None, if◌then◌else◌}
+use Rattle.std.specs.List.{list_any}
 use Rattle.ev_geom.specs.Area.{Area, holds}
 use Rattle.ev_geom.specs.Bands.{has_pixel, IsBandsOf}
 use Rattle.ev_geom.specs.Snap.{IsSnapOf}
+use Rattle.ev_geom.specs.Tiles.{jobs_of}
 use Rattle.ev_model.specs.Capture.{Capture}
 use Rattle.ev_model.specs.Stage.{canvas_on}
 use Rattle.ev_damage.specs.Damage.{is_damaged}
 use Rattle.ev_canvas.specs.declared.newest.End.{End}
 use Rattle.ev_canvas.specs.declared.newest.End.TheVariants as end
 
--- A start: its number, what it captured of its scene, and three banded lists of rectangles: what its
--- frame owes, what is hidden from it, and what it updates.
+-- A start: its number, what it captured of its scene, three banded lists of rectangles, which are what its
+-- frame owes, what is hidden from it and what it updates, and how many tiles its frame draws.
 pub record Entry : Type 0 where
   pub number : ℕ
   pub capture : Capture
   pub owed : List Area
   pub hidden : List Area
   pub updates : List Area
+  pub tiles : ℕ
 
 -- a start, and how its frame ended
 pub record Latest : Type 0 where
@@ -84,3 +87,30 @@ pub record Starts (cell : ℕ) (before : Option Latest) (now : Capture) (given a
   pub hidden : IsBandsOf (λ x y. has_pixel areas x y && holds (canvas_on now.w now.h) x y) entry.hidden
   pub owed : Owes cell before now given entry.owed
   pub updates : IsBandsOf (λ x y. has_pixel entry.owed x y && not (has_pixel entry.hidden x y)) entry.updates
+
+-- ---- what frames draw
+
+-- whether a frame draws the pixel: it doesn't where it is hidden; else where the frame updates it, or one of those that its buffer
+-- has missed
+abbrev pub repairs : List (List Area) → List Area → ℤ → ℤ → Bool
+repairs updates hidden x y = list_any (λ one. has_pixel one x y) updates && not (has_pixel hidden x y)
+
+-- how many tiles of a canvas hold a pixel of a set
+abbrev pub tiles_in : Capture → (ℤ → ℤ → Bool) → ℕ
+tiles_in now set = length (jobs_of set now.w now.h)
+
+-- what the newest starts updated, so many of them at most and only those with a canvas of this size, the newest first
+abbrev pub updates_since : ℕ → Capture → List Latest → List (List Area)
+updates_since zero now starts = []
+updates_since (suc n) now [] = []
+updates_since (suc n) now (latest ∷ older) = if has_size_of latest.entry.capture now then latest.entry.updates ∷ updates_since n now older else []
+
+-- the same of the newest start's size
+abbrev pub newest_updates : ℕ → List Latest → List (List Area)
+newest_updates n [] = []
+newest_updates n (latest ∷ older) = updates_since n latest.entry.capture (latest ∷ older)
+
+-- how many pixels count as painted by a start itself: those of all buffers, where their size is new
+abbrev pub pixels_opened : ℕ → Option Latest → Capture → ℕ
+pixels_opened buffers None now = buffers * (now.w * now.h)
+pixels_opened buffers (Some before) now = if has_size_of before.entry.capture now then 0 else buffers * (now.w * now.h)

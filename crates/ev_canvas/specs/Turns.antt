@@ -115,7 +115,7 @@ EndsRender old n (Err cause) begun turn = turn ≡ stays old (Refused (start_ref
 pub record Renders (setting : Setting) (old : State) (n : ℕ) (turn : Turn) : Type 0 where
   pub answer : Result Started StartErr
   pub begun : Now
-  pub start : MayStart setting.setup.cell old.now answer begun
+  pub start : MayStart setting.setup old.now answer begun
   pub ends : EndsRender old n answer begun turn
 
 -- ---- loads

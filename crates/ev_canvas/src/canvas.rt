@@ -2,11 +2,10 @@
 ghost use Rattle.std.specs.Prelude.{◌≡◌, ◌≤◌, IfOk};
 
 use crate::NoMemory;
+use crate::drawing::Drawing;
 use crate::event::Events;
-use crate::newest::{Drawn, Newest};
 use ev_geom::Rect;
 use ev_preload::Preloads;
-use ev_region::Region;
 use ev_scene::SceneBox;
 use std::alloc::Global;
 use std::marker::Model;
@@ -29,28 +28,29 @@ pub struct Canvas {
     // The rectangles given since the newest start, and the hidden ones in force.
     pub(crate) given: Vec<Rect>,
     pub(crate) areas: Vec<Rect>,
-    // The newest start, and what was drawn before it.
-    pub(crate) newest: Option<Newest>,
-    pub(crate) before: Drawn,
+    // The newest start with its buffers, and what was drawn before it.
+    pub(crate) drawing: Drawing,
     // The preloads that run, and the events that nobody took yet.
     pub(crate) preloads: Preloads,
     pub(crate) events: Events,
 }
 
 impl Model for Canvas {
-    ghost use Rattle.ev_canvas.specs.Canvas.{Canvas, IsCanvas, frames_of};
+    ghost use Rattle.ev_canvas.specs.Canvas.{Canvas, IsCanvas};
+    ghost use Rattle.ev_canvas.specs.Drawings.{frames_of, painted_of};
 
     ghost Value = { Canvas };
 
     ghost view = { λ c. record {
       setup = c.setup;
       scene = c.scene;
-      frames = frames_of c.given.items c.areas.items c.newest c.before;
+      frames = frames_of c.given.items c.areas.items c.drawing;
+      painted = painted_of c.drawing.newest;
       loads = c.preloads;
       events = c.events;
     } };
 
-    ghost invariant = { λ c. IsCanvas c.setup c.scene c.newest c.before c.preloads };
+    ghost invariant = { λ c. IsCanvas c.setup c.scene c.drawing c.preloads };
 }
 
 impl Canvas {
@@ -70,8 +70,7 @@ impl Canvas {
             scene: SceneBox::new(alloc)?,
             given: Vec::new(alloc),
             areas: Vec::new(alloc),
-            newest: None,
-            before: Drawn::nothing(alloc),
+            drawing: Drawing::nothing(alloc),
             preloads: Preloads::new(alloc)?,
             events: Events::new(alloc)?,
         })

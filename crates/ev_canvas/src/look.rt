@@ -23,7 +23,7 @@ impl Canvas {
     pub(crate) fn is_running(&self) -> bool
         ensures { result ≡ runs self.now.frames.newest }
     {
-        match &self.newest {
+        match &self.drawing.newest {
             Some(newest) => newest.end.is_running(),
             None => false,
         }
@@ -35,10 +35,10 @@ impl Canvas {
             (λ picture. IsPictureOf self.now.frames picture.now)
             (λ cause. picture_refusal self.now.frames.newest ≡ Some cause) }
     {
-        match &self.newest {
+        match &self.drawing.newest {
             None => Err(NoPicture::NoFrame),
             Some(newest) if newest.end.is_running() => Err(NoPicture::Busy),
-            Some(newest) => Ok(&newest.picture),
+            Some(newest) => Ok(newest.picture()),
         }
     }
 
@@ -48,9 +48,9 @@ impl Canvas {
         ensures value { result.now ≡ self.now.frames.drawn.updates }
         ensures last { IsDrawnLast self.now.frames }
     {
-        match &self.newest {
+        match &self.drawing.newest {
             Some(newest) if !newest.end.is_running() => newest.updates.rects(),
-            _ => self.before.updates.rects(),
+            _ => self.drawing.before.updates.rects(),
         }
     }
 
@@ -60,9 +60,9 @@ impl Canvas {
         ensures value { result.now ≡ self.now.frames.drawn.hidden }
         ensures last { IsDrawnLast self.now.frames }
     {
-        match &self.newest {
+        match &self.drawing.newest {
             Some(newest) if !newest.end.is_running() => &newest.hidden,
-            _ => &self.before.hidden,
+            _ => &self.drawing.before.hidden,
         }
     }
 
@@ -70,8 +70,19 @@ impl Canvas {
     pub fn frames(&self) -> u64
         ensures { result ≡ last_number self.now.frames.newest }
     {
-        match &self.newest {
+        match &self.drawing.newest {
             Some(newest) => newest.number,
+            None => 0,
+        }
+    }
+
+    /// How many pixels were painted on the buffers, their making included, and on those that were given
+    /// up. A plane of a running frame counts as when the frame started (docs/CANVAS.md, "Frames").
+    pub fn painted(&self) -> u64
+        ensures { result ≡ self.now.painted }
+    {
+        match &self.drawing.newest {
+            Some(newest) => newest.easel.painted(),
             None => 0,
         }
     }

@@ -6,7 +6,7 @@ ghost use Rattle.ev_model.specs.Capture.{capture_of};
 ghost use Rattle.ev_model.specs.Stage.{stage, canvas_on};
 ghost use Rattle.ev_damage.specs.Places.{Adds};
 ghost use Rattle.ev_canvas.specs.Starts.{touched, has_size_of, OwesOn, OwesAll, Owes};
-ghost use Rattle.ev_canvas.specs.Canvas.{latest_of};
+ghost use Rattle.ev_canvas.specs.Drawings.{latest_of};
 
 use crate::NoMemory;
 use crate::newest::Newest;
@@ -81,8 +81,8 @@ fn whole(alloc: Global, now: &Captured) -> Result<Region, NoMemory>
     Ok(region)
 }
 
-// Whether two scenes have one size.
-fn has_size_of(a: &Scene, b: &Scene) -> bool
+/// Whether two scenes have one size.
+pub(crate) fn have_one_size(a: &Scene, b: &Scene) -> bool
     ensures { result ≡ has_size_of (capture_of (stage a.now)) (capture_of (stage b.now)) }
 {
     a.w == b.w && a.h == b.h
@@ -101,7 +101,7 @@ fn owed_after(
     ensures { IfOk result (Owes cell (Some (latest_of before.now))
         (capture_of (stage now.now.scene)) given.now) }
 {
-    if has_size_of(before.shot.scene(), now.scene()) {
+    if have_one_size(before.shot.scene(), now.scene()) {
         owed_on(alloc, cell, before, now, given)
     } else {
         whole(alloc, now)

@@ -1,7 +1,7 @@
 // Frames of a canvas of which a part is hidden, and loads.
 ghost use Rattle.std.specs.Prelude.{◌≡◌, [], true, IfOk};
 ghost use Rattle.ev_model.specs.Limits.{IsEdit};
-ghost use Rattle.ev_canvas.specs.CanvasFrames.{runs};
+ghost use Rattle.ev_canvas.specs.CanvasFrames.{finish_of, IsFrame};
 
 use crate::{Canvas, Event, Finish, Flushed, NoPicture, Setup};
 use ev_geom::Rect;
@@ -11,14 +11,14 @@ use ev_preload::LoadEnd;
 use std::alloc::{AllocError, Global};
 use std::test::Fail;
 
-// A canvas with cells of 8, on which nothing was done yet.
+// A canvas with cells of 8 and two buffers, on which nothing was done yet.
 fn new(alloc: Global) -> Result<Canvas, AllocError>
     ensures taken { IfOk result (λ canvas. canvas.events ≡ []) }
     ensures idle { IfOk result (λ canvas. canvas.loads.running ≡ []) }
     ensures first { IfOk result (λ canvas. canvas.loads.begun ≡ 0) }
 {
     let setup = Setup {
-        buffers: 1,
+        buffers: 2,
         cell: 8,
     };
     Canvas::create(alloc, setup)
@@ -36,37 +36,53 @@ fn is_edited(canvas: &mut Canvas, edit: &Edit) -> bool
     canvas.edit(edit).is_ok()
 }
 
-// A canvas of 16 by 8 pixels.
-fn small(alloc: Global) -> Result<Canvas, AllocError> {
+// A canvas of w by h pixels.
+fn sized(alloc: Global, w: i64, h: i64) -> Result<Canvas, AllocError> {
     let mut canvas = new(alloc)?;
-    if is_edited(&mut canvas, &Edit::Size { w: 16, h: 8 }) {
+    if is_edited(&mut canvas, &Edit::Size { w, h }) {
         Ok(canvas)
     } else {
         Err(AllocError)
     }
 }
 
-// A screen that fails at the second frame.
-fn screen(alloc: Global) -> Result<MemScreen, AllocError> {
+// A screen that fails at these frames.
+fn screen(alloc: Global, failing: Vec<u64>) -> Result<MemScreen, AllocError> {
     let room = ScreenRoom {
-        frames: 3,
+        frames: 4,
         updates: 9,
-        pixels: 999,
+        pixels: 33_280,
     };
-    MemScreen::new(alloc, room, [2].to_vec(alloc)?)
+    MemScreen::new(alloc, room, failing)
 }
 
-// Whether a frame is started.
-fn is_started(canvas: &mut Canvas) -> bool
-    ensures { result ≡ true → runs canvas.new.frames.newest ≡ true }
-{
-    canvas.frames() < 8 && canvas.start().is_ok()
+// Starts a frame, and says how many tiles it draws.
+fn started(canvas: &mut Canvas) -> Option<u32> {
+    if canvas.frames() >= 8 || canvas.painted() >= 1_000_000 {
+        return None;
+    }
+    match canvas.start() {
+        Ok(started) => Some(started.tiles),
+        Err(_) => None,
+    }
 }
 
-// Whether the running frame is shown.
-fn is_shown(canvas: &mut Canvas, screen: &mut MemScreen) -> bool
-    requires { runs canvas.old.frames.newest ≡ true }
+// Whether all jobs of the running frame are drawn.
+fn is_drawn(canvas: &Canvas) -> bool
+    ensures { result ≡ true → IsFrame (finish_of canvas.now.frames) }
 {
+    match canvas.finish() {
+        Finish::Frame { .. } => true,
+        Finish::Pending { .. } | Finish::Idle => false,
+    }
+}
+
+// Whether the running frame is drawn and shown.
+fn is_shown(canvas: &mut Canvas, screen: &mut MemScreen) -> bool {
+    canvas.step(u32::MAX);
+    if !is_drawn(canvas) {
+        return false;
+    }
     match canvas.flush(screen) {
         Flushed::Shown => true,
         Flushed::Lost { .. } => false,
@@ -74,21 +90,21 @@ fn is_shown(canvas: &mut Canvas, screen: &mut MemScreen) -> bool
 }
 
 // Whether the running frame is shown, and updates so many rectangles.
-fn is_shown_with(canvas: &mut Canvas, screen: &mut MemScreen, updates: usize) -> bool
-    requires { runs canvas.old.frames.newest ≡ true }
-{
+fn is_shown_with(canvas: &mut Canvas, screen: &mut MemScreen, updates: usize) -> bool {
     is_shown(canvas, screen) && canvas.updates().len() == updates
 }
 
 // Whether a frame is started and shown, where the frame drawn last updates so many rectangles
 // before the flush, and so many after it.
 fn shows(canvas: &mut Canvas, screen: &mut MemScreen, before: usize, after: usize) -> bool {
-    is_started(canvas) && canvas.updates().len() == before && is_shown_with(canvas, screen, after)
+    started(canvas).is_some()
+        && canvas.updates().len() == before
+        && is_shown_with(canvas, screen, after)
 }
 
 // Whether a frame is started and lost.
 fn loses(canvas: &mut Canvas, screen: &mut MemScreen) -> bool {
-    is_started(canvas) && !is_shown(canvas, screen)
+    started(canvas).is_some() && !is_shown(canvas, screen)
 }
 
 // Hides half of the canvas, and no rectangle with numbers out of their ranges.
@@ -121,8 +137,9 @@ fn owes_later(canvas: &mut Canvas, screen: &mut MemScreen) -> bool {
 
 #[test]
 fn what_was_hidden_or_lost_is_owed_later(rt: HostRuntime) -> Result<(), Fail> {
-    let mut screen = screen(rt.alloc())?;
-    let mut canvas = small(rt.alloc())?;
+    let alloc = rt.alloc();
+    let mut screen = screen(alloc, [2].to_vec(alloc)?)?;
+    let mut canvas = sized(alloc, 16, 8)?;
     assert!(rt; owes_later(&mut canvas, &mut screen));
     Ok(())
 }
@@ -130,7 +147,12 @@ fn what_was_hidden_or_lost_is_owed_later(rt: HostRuntime) -> Result<(), Fail> {
 // Whether the first frame is running, and has neither a picture nor hidden pixels yet.
 fn is_undrawn(canvas: &Canvas) -> bool {
     canvas.picture().err() == Some(NoPicture::Busy)
-        && canvas.finish() == Finish::Frame { n: 1 }
+        && canvas.finish()
+            == (Finish::Pending {
+                n: 1,
+                done: 0,
+                limit: 1,
+            })
         && canvas.hidden().rects().is_empty()
 }
 
@@ -138,14 +160,37 @@ fn is_undrawn(canvas: &Canvas) -> bool {
 fn is_drawn_at_the_flush(canvas: &mut Canvas) -> bool {
     canvas.picture().err() == Some(NoPicture::NoFrame)
         && hide_half(canvas)
-        && is_started(canvas)
+        && started(canvas) == Some(1)
         && is_undrawn(canvas)
 }
 
 #[test]
 fn a_running_frame_has_no_picture_yet(rt: HostRuntime) -> Result<(), Fail> {
-    let mut canvas = small(rt.alloc())?;
+    let mut canvas = sized(rt.alloc(), 16, 8)?;
     assert!(rt; is_drawn_at_the_flush(&mut canvas));
+    Ok(())
+}
+
+// Whether a frame is started that draws so many tiles, and shown.
+fn draws(canvas: &mut Canvas, screen: &mut MemScreen, tiles: u32) -> bool {
+    started(canvas) == Some(tiles) && is_shown(canvas, screen)
+}
+
+// Whether each frame draws the tiles that its buffer has missed, and no others.
+fn draws_what_was_missed(canvas: &mut Canvas, screen: &mut MemScreen) -> bool {
+    draws(canvas, screen, 3)
+        && canvas.damage(0, 0, 1, 1) == Ok(())
+        && draws(canvas, screen, 3)
+        && draws(canvas, screen, 1)
+        && draws(canvas, screen, 0)
+}
+
+#[test]
+fn a_buffer_is_drawn_where_it_missed_something(rt: HostRuntime) -> Result<(), Fail> {
+    let alloc = rt.alloc();
+    let mut screen = screen(alloc, Vec::new(alloc))?;
+    let mut canvas = sized(alloc, 130, 64)?;
+    assert!(rt; draws_what_was_missed(&mut canvas, &mut screen));
     Ok(())
 }
 

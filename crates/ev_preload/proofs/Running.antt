@@ -62,7 +62,7 @@ collected_none (preload ∷ running) number none =
 
 -- ---- what keeps the order
 
-rises_more : (first before : ℕ) (running : List Preload) (last : ℕ) → first ≤ before → Rises before running last → Rises first running last
+pub rises_more : (first before : ℕ) (running : List Preload) (last : ℕ) → first ≤ before → Rises before running last → Rises first running last
 rises_more first before [] last h rises = omega (arith, h, rises)
 rises_more first before (preload ∷ running) last h rises = (omega (arith, h, rises.0), rises.1)
 
@@ -70,14 +70,14 @@ pub rises_push : (before : ℕ) (running : List Preload) (last : ℕ) (preload :
 rises_push before [] last preload rises h = (omega (arith, rises, h), omega arith)
 rises_push before (one ∷ running) last preload rises h = (rises.0, rises_push one.job.number running last preload rises.1 h)
 
-rises_hold : (before : ℕ) (running : List Preload) (last number : ℕ) (end : LoadEnd) → Rises before running last → Rises before (hold running number end) last
+pub rises_hold : (before : ℕ) (running : List Preload) (last number : ℕ) (end : LoadEnd) → Rises before running last → Rises before (hold running number end) last
 rises_hold before [] last number end rises = rises
 rises_hold before (preload ∷ running) last number end rises = go (is_open number preload) refl (rises_hold preload.job.number running last number end rises.1) where
   go : (t : Bool) → is_open number preload ≡ t → Rises preload.job.number (hold running number end) last → Rises before (hold (preload ∷ running) number end) last
   go true e later = rw e rises
   go false e later = rw e (rises.0, later)
 
-rises_without : (before : ℕ) (running : List Preload) (last number : ℕ) → Rises before running last → Rises before (without running number) last
+pub rises_without : (before : ℕ) (running : List Preload) (last number : ℕ) → Rises before running last → Rises before (without running number) last
 rises_without before [] last number rises = rises
 rises_without before (preload ∷ running) last number rises = go (is_held number preload) refl (rises_without preload.job.number running last number rises.1) where
   go : (t : Bool) → is_held number preload ≡ t → Rises preload.job.number (without running number) last → Rises before (without (preload ∷ running) number) last
@@ -265,7 +265,7 @@ found_none (preload ∷ running) id none =
     let later = found_none running id (λ k d h. none (suc k) d (omega (arith, h))) in
     rw (none 0 preload (omega arith)) (later.0, ap (λ rest. preload ∷ rest) later.1)
 
-rises_filter : (test : Preload → Bool) (before : ℕ) (running : List Preload) (last : ℕ) → Rises before running last → Rises before (filter test running) last
+pub rises_filter : (test : Preload → Bool) (before : ℕ) (running : List Preload) (last : ℕ) → Rises before running last → Rises before (filter test running) last
 rises_filter test before [] last rises = rises
 rises_filter test before (preload ∷ running) last rises = go (test preload) refl (rises_filter test preload.job.number running last rises.1) (rises_filter test before running last (rises_more before preload.job.number running last (omega (arith, rises.0)) rises.1)) where
   go : (t : Bool) → test preload ≡ t → Rises preload.job.number (filter test running) last → Rises before (filter test running) last → Rises before (filter test (preload ∷ running)) last
