@@ -2,6 +2,7 @@ pub mod Painting
 pub mod Pieces
 pub mod Reading
 pub mod Counting
+pub mod Costs
 pub mod Turns
 pub mod Rendering
 pub mod Playing

@@ -92,6 +92,7 @@ pub record Ended (old begun holding done new : Canvas) (job : Job) (taken : Bool
   pub held_alone : holding ≡ record begun { loads = holding.loads }
   pub collects : MayCollect (now_of holding) job.number taken (now_of done) done.events
   pub collected_setup : done.setup ≡ holding.setup
+  pub collected_painted : done.painted ≡ holding.painted
   pub first : Some event ≡ first_event done.events
   pub rest : new ≡ record done { events = later_events done.events }
 
@@ -161,6 +162,7 @@ load_ended frames faults files files' before now name old begun holding done new
         events = ap (λ c. c.events) loading.rest ∙ ap later_events left.events;
         idle = ap (λ f. runs f.newest) left.frames ∙ ready.idle;
       };
+      painted = let same : new.painted ≡ old.painted = ap (λ c. c.painted) loading.rest ∙ loading.collected_painted ∙ ap (λ c. c.painted) loading.held_alone ∙ ap (λ c. c.painted) loading.begun_alone in omega (arith, same);
       setup = ap (λ c. c.setup) loading.rest ∙ loading.collected_setup ∙ ap (λ c. c.setup) loading.held_alone ∙ ap (λ c. c.setup) loading.begun_alone;
       files = files_stay;
     }

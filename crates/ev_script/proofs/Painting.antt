@@ -1,5 +1,5 @@
 -- The places of a picture, part of which may be hidden.
-use Rattle.std.proofs.Common.{◌≡◌, ℕ, zero, suc, ◌+◌, ◌<◌, List, [], ◌∷◌, ◌++◌, map, get_or, Bool, true, false, Option, Some, None, cond, refl, sym, ap, ap₂, ◌∙◌, arith}
+use Rattle.std.proofs.Common.{◌≡◌, ℕ, zero, suc, ◌+◌, ◌<◌, List, [], ◌∷◌, ◌++◌, map, get_or, Bool, true, false, pos, Option, Some, None, cond, refl, sym, ap, ap₂, ◌∙◌, arith}
 use Rattle.std.specs.List.{range_with_len, flat_map}
 use Rattle.std.proofs.lemmas.Option.{none-some, same_Some}
 use Rattle.std.proofs.lemmas.List.FromFn.{get_or-map-range_with_len, length-map-range_with_len}
@@ -7,9 +7,10 @@ use Rattle.ev_argb.specs.Argb.{Argb, clear}
 use Rattle.ev_argb.specs.Grid.{Grid, pixel_at, row_of}
 use Rattle.ev_geom.specs.Area.{Area}
 use Rattle.ev_model.specs.Answer.{Answer, DumpRow, Refused}
-use Rattle.ev_model.specs.Paint.{IsRedrawn}
 use Rattle.ev_model.specs.declared.refusal.Refusal.TheVariants.{Busy}
+use Rattle.ev_geom.specs.Bands.{has_pixel}
 use Rattle.ev_canvas.specs.Starts.{Entry, Latest, is_running}
+use Rattle.ev_canvas.specs.Pictures.{IsPicture}
 use Rattle.ev_canvas.specs.Totals.{totals}
 use Rattle.ev_canvas.specs.Turns as machine
 use Rattle.ev_canvas.specs.Turns.{printed, picture_cause, told_flush}
@@ -39,23 +40,30 @@ row_places hidden grid y =
     ∙ same_map (λ x. unhidden hidden x y (get_or (row_of grid y) x clear)) (λ x. unhidden hidden x y (pixel_at grid x y)) 0 grid.w grid.w (omega arith)
     (λ x inside. ap (unhidden hidden x y) (get_or-map-range_with_len (λ x. pixel_at grid x y) 0 grid.w x x clear inside (omega arith)))
 
--- the rows of a redrawn picture are those of the start that it shows
-same_row : (entry : Entry) (grid : Grid) (y : ℕ) → IsRedrawn entry.capture grid → y < entry.capture.h → place_row entry.hidden grid y ≡ machine.place_row entry y
+-- a pixel that isn't hidden is that of the start
+same_place : (entry : Entry) (grid : Grid) (x y : ℕ) → IsPicture entry grid → x < entry.capture.w → y < entry.capture.h → unhidden entry.hidden x y (pixel_at grid x y) ≡ machine.place entry x y
+same_place entry grid x y drawn column row = go (has_pixel entry.hidden (pos x) (pos y)) refl where
+  go : (t : Bool) → has_pixel entry.hidden (pos x) (pos y) ≡ t → unhidden entry.hidden x y (pixel_at grid x y) ≡ machine.place entry x y
+  go true hidden = rw hidden refl
+  go false shown = rw shown (ap Some (drawn.pixels x y column row shown))
+
+-- the rows of a picture are those of the start that it shows
+same_row : (entry : Entry) (grid : Grid) (y : ℕ) → IsPicture entry grid → y < entry.capture.h → place_row entry.hidden grid y ≡ machine.place_row entry y
 same_row entry grid y drawn below =
     ap (λ w. map (λ x. unhidden entry.hidden x y (pixel_at grid x y)) (range_with_len 0 w)) drawn.width
     ∙ same_map (λ x. unhidden entry.hidden x y (pixel_at grid x y)) (λ x. machine.place entry x y) 0 entry.capture.w entry.capture.w (omega arith)
-    (λ x inside. ap (unhidden entry.hidden x y) (drawn.pixels x y inside below))
+    (λ x inside. same_place entry grid x y drawn inside below)
 
 -- the rows that a dump prints
 abbrev pub picture_rows : List Area → Grid → List Answer
 picture_rows hidden grid = map (λ y. DumpRow (place_row hidden grid y)) (range_with_len 0 grid.h)
 
-pub same_rows : (entry : Entry) (grid : Grid) → IsRedrawn entry.capture grid → picture_rows entry.hidden grid ≡ machine.rows entry
+pub same_rows : (entry : Entry) (grid : Grid) → IsPicture entry grid → picture_rows entry.hidden grid ≡ machine.rows entry
 same_rows entry grid drawn =
     ap (λ h. map (λ y. DumpRow (place_row entry.hidden grid y)) (range_with_len 0 h)) drawn.height
     ∙ same_map (λ y. DumpRow (place_row entry.hidden grid y)) (λ y. DumpRow (machine.place_row entry y)) 0 entry.capture.h entry.capture.h (omega arith) (λ y below. ap DumpRow (same_row entry grid y drawn below))
 
-pub same_sums : (entry : Entry) (grid : Grid) → IsRedrawn entry.capture grid → totals (places entry.hidden grid) ∷ [] ≡ machine.sums entry
+pub same_sums : (entry : Entry) (grid : Grid) → IsPicture entry grid → totals (places entry.hidden grid) ∷ [] ≡ machine.sums entry
 same_sums entry grid drawn = ap (λ ps. totals ps ∷ []) (
     ap (λ h. flat_map (place_row entry.hidden grid) (range_with_len 0 h)) drawn.height
     ∙ same_flat_map (place_row entry.hidden grid) (machine.place_row entry) 0 entry.capture.h entry.capture.h (omega arith) (λ y below. same_row entry grid y drawn below))

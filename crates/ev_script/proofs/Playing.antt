@@ -16,7 +16,7 @@ use Rattle.ev_lang.specs.declared.line.Line.{Line}
 use Rattle.ev_lang.specs.declared.line.Line.TheVariants as line
 use Rattle.ev_canvas.specs.Canvas.{Canvas, opened as new_canvas}
 use Rattle.ev_canvas.specs.CanvasFrames.{runs}
-use Rattle.ev_canvas.specs.Ledger.{IsSound}
+use Rattle.ev_canvas.specs.Sound.{IsSound}
 use Rattle.ev_canvas.specs.declared.canvas.Setup.{Setup}
 use Rattle.ev_canvas.specs.Turns.{Setting, State, Turn, opening, starts_of}
 use Rattle.ev_canvas.specs.Starts.{Latest, last_number}
@@ -70,16 +70,16 @@ plays_on settled old n m (first ∷ answered) line replies state turn plays numb
     (plays.0, rest ++ turn.replies, plays.2, plays_on settled plays.0.after (n + 1) m answered line rest state turn plays.3 number_is step, ap (λ rs. rs ++ turn.replies) plays.4 ∙ append_assoc plays.0.replies rest turn.replies)
 
 -- a line leaves a sound state sound
-sound_on : (settled : Setting) (state : State) (n : ℕ) (said : Line) (turn : Turn) → Step settled state n said turn → IsSound settled.setup.cell state → IsSound settled.setup.cell turn.after
-sound_on settled state n line.Empty turn is sound = subst (λ t. IsSound settled.setup.cell t.after) (sym is) sound
-sound_on settled state n (line.Bad fault) turn is sound = subst (λ t. IsSound settled.setup.cell t.after) (sym is) sound
+sound_on : (settled : Setting) (state : State) (n : ℕ) (said : Line) (turn : Turn) → Step settled state n said turn → IsSound settled.setup state → IsSound settled.setup turn.after
+sound_on settled state n line.Empty turn is sound = subst (λ t. IsSound settled.setup t.after) (sym is) sound
+sound_on settled state n (line.Bad fault) turn is sound = subst (λ t. IsSound settled.setup t.after) (sym is) sound
 sound_on settled state n (line.Command said) turn is sound = commanded settled state n said turn is sound
 
 -- How the machine plays these lines, on a canvas that then stands for the state that they leave, with
 -- these starts before the newest one, and what the screen and the store show of it.
 pub record Reaches (settled : Setting) (before now : Devices) (canvas : Canvas) (answered : List Line) (replies : List Answer) (older : List Latest) : Type 0 where
   pub plays : Plays settled opening 1 answered replies (state_of canvas older)
-  pub sound : IsSound settled.setup.cell (state_of canvas older)
+  pub sound : IsSound settled.setup (state_of canvas older)
   pub seen : IsSeen (state_of canvas older) replies before now
   pub settles : setting canvas.setup now.files ≡ settled
 
@@ -87,7 +87,7 @@ pub record Reaches (settled : Setting) (before now : Devices) (canvas : Canvas) 
 reaches_none : (setup : Setup) (before : Devices) (canvas : Canvas) → canvas ≡ new_canvas setup → Reaches (setting setup before.files) before before canvas [] [] []
 reaches_none setup before canvas is = subst (λ c. Reaches (setting setup before.files) before before c [] [] []) (sym is) (record {
   plays = (refl, refl);
-  sound = opened setup.cell;
+  sound = opened setup;
   seen = record {
     showings = [];
     shows = refl;

@@ -51,6 +51,7 @@ printed_quietly print quiet n (Some latest) = by (is_running latest.end)
 pub record Keeps (old new : Canvas) : Type 0 where
   pub setup : new.setup ≡ old.setup
   pub newest : new.frames.newest ≡ old.frames.newest
+  pub painted : new.painted ≡ old.painted
   pub begun : new.loads.begun ≡ old.loads.begun
   pub running : old.loads.running ≡ [] → new.loads.running ≡ []
   pub events : old.loads.running ≡ [] → old.events ≡ [] → new.events ≡ []
@@ -74,13 +75,14 @@ quiet_acts line d old new outcome keeps step quiet = record {
     events = keeps.events ready.running ready.events;
     idle = ap runs keeps.newest ∙ ready.idle;
   };
+  painted = omega (arith, keeps.painted);
   setup = keeps.setup;
   files = refl;
 }
 
 -- a line that changes nothing
 pub still_acts : (line : Line) (d : Devices) (canvas : Canvas) (outcome : Outcome) → ((n : ℕ) (older : List Latest) → Step (setting canvas.setup d.files) (state_of canvas older) n line (stays (state_of canvas older) (told canvas n outcome))) → ((n : ℕ) → AreQuiet (told canvas n outcome)) → Acts line d d canvas canvas outcome
-still_acts line d canvas outcome step quiet = quiet_acts line d canvas canvas outcome (record { setup = refl; newest = refl; begun = refl; running = λ none. none; events = λ none taken. taken }) step quiet
+still_acts line d canvas outcome step quiet = quiet_acts line d canvas canvas outcome (record { setup = refl; newest = refl; painted = refl; begun = refl; running = λ none. none; events = λ none taken. taken }) step quiet
 
 -- a line that is refused, and leaves the canvas as it is
 pub refused_acts : (line : Line) (d : Devices) (old new : Canvas) (cause : Refusal) → new ≡ old → ((n : ℕ) (older : List Latest) → Step (setting old.setup d.files) (state_of old older) n line (stays (state_of old older) (Refused cause n ∷ []))) → Acts line d d old new (outcome.Done (Err cause))
@@ -93,6 +95,7 @@ frames_acts line d old new result alone newest step = quiet_acts line d old new 
     (record {
       setup = ap (λ c. c.setup) alone;
       newest = newest;
+      painted = ap (λ c. c.painted) alone;
       begun = ap (λ c. c.loads.begun) alone;
       running = λ none. ap (λ c. c.loads.running) alone ∙ none;
       events = λ none taken. ap (λ c. c.events) alone ∙ taken;
@@ -100,11 +103,12 @@ frames_acts line d old new result alone newest step = quiet_acts line d old new 
     step (λ n. done_quietly n result)
 
 -- an edit, where no load runs
-pub edit_acts : (d : Devices) (edit : Edit) (old new : Canvas) (result : Result (Unit {0}) Refusal) → old.loads.running ≡ [] → MayEdit (now_of old) edit result (now_of new) new.events → new.setup ≡ old.setup → Acts (line.Command (command.Edit edit)) d d old new (outcome.Done result)
-edit_acts d edit old new result none edits setup = quiet_acts (line.Command (command.Edit edit)) d old new (outcome.Done result)
+pub edit_acts : (d : Devices) (edit : Edit) (old new : Canvas) (result : Result (Unit {0}) Refusal) → old.loads.running ≡ [] → MayEdit (now_of old) edit result (now_of new) new.events → new.setup ≡ old.setup → new.painted ≡ old.painted → Acts (line.Command (command.Edit edit)) d d old new (outcome.Done result)
+edit_acts d edit old new result none edits setup painted = quiet_acts (line.Command (command.Edit edit)) d old new (outcome.Done result)
     (record {
       setup = setup;
       newest = ap (λ f. f.newest) edits.frames;
+      painted = painted;
       begun = ap (λ ls. ls.begun) edits.loads;
       running = λ idle. ap (λ ls. ls.running) edits.loads ∙ ap (kept (now_of new).scene) idle;
       events = λ idle taken. edits.events ∙ ap (gone (now_of new).scene) idle;

@@ -1,12 +1,15 @@
 -- A line that is carried out on a canvas, and the turn of the machine that it takes.
-use Rattle.std.specs.Prelude.{◌≡◌, ℕ, ◌+◌, ◌<◌, false, List, [], ◌++◌, map, reverse, Option, Result}
+use Rattle.std.specs.Prelude.{◌≡◌, ℕ, ◌+◌, ◌*◌, ◌^◌, ◌<◌, ◌≤◌, false, List, [], ◌++◌, map, reverse, Option, Result}
 use Rattle.ev_port.specs.Told.{GrowsBy}
 use Rattle.ev_port.specs.Causes.{RoseBy}
 use Rattle.ev_port.specs.Frame.{Frame}
 use Rattle.ev_port.specs.declared.file.StoredFile.{StoredFile}
 use Rattle.ev_model.specs.Answer.{Answer}
 use Rattle.ev_model.specs.Text.{text}
+use Rattle.ev_model.specs.declared.command.Command.TheVariants as command
 use Rattle.ev_lang.specs.declared.line.Line.{Line}
+use Rattle.ev_lang.specs.declared.line.Line.TheVariants as says
+use Rattle.ev_cmds.specs.Cuts.{most_painted}
 use Rattle.ev_canvas.specs.Canvas.{Canvas, now_of}
 use Rattle.ev_canvas.specs.History.{Showing, Shows}
 use Rattle.ev_canvas.specs.CanvasFrames.{runs}
@@ -54,12 +57,22 @@ pub record TakesTurn (setting : Setting) (n : ℕ) (line : Line) (before after :
   pub losses : RoseBy (lost_frames replies) before.faults after.faults
   pub failures : RoseBy (store_failures replies) before.store_faults after.store_faults
 
+-- how many pixels may count as painted by a start and its frame: those of new buffers, and those of all its tiles
+abbrev pub most_of_frame : ℕ
+most_of_frame = 2 ^ 26 + 4096 * most_painted
+
+-- the same of a line, which renders a frame or paints nothing
+abbrev pub most_by : Line → ℕ
+most_by (says.Command command.Render) = most_of_frame
+most_by other = 0
+
 -- From each state for which the old canvas stands, and whatever the line's number, the line takes a turn
--- whose replies are told by the outcome. The canvas is ready for the next line, and its setup and the
--- store's files are those that they were.
+-- whose replies are told by the outcome. The canvas is ready for the next line, no more pixels were painted
+-- than the line may, and its setup and the store's files are those that they were.
 pub record Acts (line : Line) (before after : Devices) (old new : Canvas) (outcome : Outcome) : Type 0 where
   pub turns : (n : ℕ) (older : List Latest) → TakesTurn (setting old.setup before.files) n line before after old new older (told new n outcome)
   pub ready : (n : ℕ) → IsReady old n → IsReady new (n + 1)
+  pub painted : new.painted ≤ old.painted + most_by line
   pub setup : new.setup ≡ old.setup
   pub files : after.files ≡ before.files
 

@@ -1,5 +1,5 @@
 // Lines, each carried out on a canvas.
-ghost use Rattle.std.specs.Prelude.{◌≡◌, ◌^◌, ℕ, List, Option};
+ghost use Rattle.std.specs.Prelude.{◌≡◌, ◌<◌, ◌^◌, ℕ, List, Option};
 ghost use Rattle.ev_port.specs.Frame.{Frame};
 ghost use Rattle.ev_port.specs.declared.file.StoredFile.{StoredFile};
 ghost use Rattle.ev_model.specs.Limits.{IsCommand};
@@ -28,6 +28,7 @@ pub(crate) fn act<T: Store, P: Screen>(
 ) -> Outcome
     requires within { IsLine line.now }
     requires ready { IsReady canvas.old (2 ^ 40) }
+    requires painted { canvas.old.painted < 2 ^ 63 }
     ensures { Acts line.now
         (devices (P.shown screen.old) (P.faults screen.old) (T.files store.old)
         (T.faults store.old))
@@ -52,6 +53,7 @@ fn obey<T: Store, P: Screen>(
 ) -> Outcome
     requires within { IsCommand command.now }
     requires ready { IsReady canvas.old (2 ^ 40) }
+    requires painted { canvas.old.painted < 2 ^ 63 }
     ensures { Acts (line.Command command.now)
         (devices (P.shown screen.old) (P.faults screen.old) (T.files store.old)
         (T.faults store.old))
@@ -105,9 +107,10 @@ fn load<T: Store>(alloc: Global, canvas: &mut Canvas, name: &Name, store: &mut T
     Outcome::Event(event)
 }
 
-// A frame that is started and flushed.
+// A frame that is started, drawn and flushed.
 fn render<P: Screen>(canvas: &mut Canvas, screen: &mut P) -> Outcome
     requires ready { IsReady canvas.old (2 ^ 40) }
+    requires painted { canvas.old.painted < 2 ^ 63 }
     ensures { (files : Option (List StoredFile)) (faults : ℕ)
         → Acts (line.Command command.Render)
         (devices (P.shown screen.old) (P.faults screen.old) files faults)
@@ -115,7 +118,10 @@ fn render<P: Screen>(canvas: &mut Canvas, screen: &mut P) -> Outcome
         canvas.old canvas.new result }
 {
     match canvas.start() {
-        Ok(_) => Outcome::Flushed(canvas.flush(screen)),
+        Ok(_) => {
+            canvas.step(u32::MAX);
+            Outcome::Flushed(canvas.flush(screen))
+        }
         Err(cause) => Outcome::Done(Err(refusal_of(cause))),
     }
 }

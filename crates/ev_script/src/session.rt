@@ -26,6 +26,7 @@ pub fn carry_out<K: Sink, T: Store, P: Screen>(
     requires within { IsLine line.now }
     requires ready { IsReady canvas.old number }
     requires few { number < 2 ^ 40 }
+    requires painted { canvas.old.painted < 2 ^ 63 }
     ensures carries { CarriesOut number line.now (K.written sink.old) (K.written sink.new)
         (devices (P.shown screen.old) (P.faults screen.old) (T.files store.old)
         (T.faults store.old))

@@ -19,6 +19,7 @@ returns g c frames faults =
       held_alone = c.hold.ensures.alone;
       collects = rw number at c.collect.ensures.collects;
       collected_setup = c.collect.ensures.setup;
+      collected_painted = c.collect.ensures.painted;
       first = c.in-Some.ensures.first;
       rest = c.next_event.ensures.rest;
     })

@@ -16,7 +16,7 @@ use Rattle.ev_script.proofs.Turns.{printed_quietly, still_acts, frames_acts, edi
 use Rattle.ev_script.proofs.act.obey.Goals as goal
 
 pub returns-in-Edit : goal.returns-in-Edit
-returns-in-Edit g c = rw c.in-Edit.is (edit_acts _ c.in-Edit.edit c.args.canvas.now c.edit.new.self c.edit.result c.requires.ready.running c.edit.ensures.edits c.edit.ensures.setup)
+returns-in-Edit g c = rw c.in-Edit.is (edit_acts _ c.in-Edit.edit c.args.canvas.now c.edit.new.self c.edit.result c.requires.ready.running c.edit.ensures.edits c.edit.ensures.setup c.edit.ensures.painted)
 
 pub returns-in-ClearAreas : goal.returns-in-ClearAreas
 returns-in-ClearAreas g c =

@@ -1,6 +1,7 @@
 use Rattle.std.proofs.Common.{◌≡◌, ◌<◌, length, ap, arith, ◌∙◌}
 use Rattle.std.proofs.lemmas.Bool.Decides.{nat_tests}
 use Rattle.ev_lang.specs.Lines.{line_of}
+use Rattle.ev_script.proofs.Costs.{pays}
 use Rattle.ev_script.proofs.Playing.{at_start, one_line, at_end, stopped, ready_opened, reaches_on, in_order}
 use Rattle.ev_script.proofs.script.play_alone.Goals as goal
 
@@ -8,6 +9,7 @@ pub loop-rest-init : goal.loop-rest-init
 loop-rest-init g c = record {
   so_far = at_start c.args.canvas.now.setup c.args.script.now _ _ c.args.canvas.now c.requires.opening;
   ready = ready_opened c.args.canvas.now.setup c.args.canvas.now c.requires.opening;
+  painted = let none = ap (λ v. v.painted) c.requires.opening in omega (arith, none);
   numbered = omega arith;
   faults = omega arith;
 }
@@ -20,6 +22,7 @@ loop-rest-preserved g c =
     record {
       so_far = one_line _ _ _ _ _ _ _ _ c.loop-rest.canvas c.carry_out.new.canvas c.loop-rest.number c.loop-rest.rest.now c.read_line.result c.first_line.result.1.now _ some line c.first_line.ensures.rest at.so_far c.in-Ok.ensures.carries;
       ready = c.carry_out.ensures.carries.acts.ready c.loop-rest.number at.ready;
+      painted = pays c.args.script.now c.loop-rest.rest.now c.first_line.result.1.now c.read_line.result c.loop-rest.canvas.painted c.carry_out.new.canvas.painted line c.first_line.ensures.rest c.carry_out.ensures.carries.acts.painted at.painted;
       numbered = omega (arith, at.numbered, c.first_line.ensures.shorter some);
       faults = omega (arith, at.faults, c.carry_out.ensures.cause.later);
     }
@@ -58,3 +61,9 @@ returns-in-Err-clause-files g c = c.carry_out.ensures.carries.acts.files ∙ ap 
 
 pub returns-in-Err-clause-taken : goal.returns-in-Err-clause-taken
 returns-in-Err-clause-taken g c = (c.carry_out.ensures.carries.acts.ready c.loop-rest.number c.loop-rest.invariant.ready).events
+
+pub carry_out-requires-clause-painted : goal.carry_out-requires-clause-painted
+carry_out-requires-clause-painted g c =
+    let paid = c.loop-rest.invariant.painted in
+    let short = c.requires.short in
+    omega (arith, paid, short)

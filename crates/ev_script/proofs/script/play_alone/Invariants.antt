@@ -1,6 +1,6 @@
-use Rattle.std.proofs.Common.{◌≤◌, ◌+◌, length}
+use Rattle.std.proofs.Common.{◌≤◌, ◌+◌, ◌*◌, length}
 use Rattle.ev_script.specs.Outside.{devices}
-use Rattle.ev_script.specs.Session.{IsReady, setting}
+use Rattle.ev_script.specs.Session.{IsReady, most_of_frame, setting}
 use Rattle.ev_script.proofs.Playing.{SoFar}
 use Rattle.ev_script.proofs.script.play_alone.Given as goal
 
@@ -10,6 +10,7 @@ invariant-loop-rest g l = record {
       (devices (g.P.Screen.shown l.fn.screen) (g.P.Screen.faults l.fn.screen) (g.T.Store.files l.fn.store) (g.T.Store.faults l.fn.store))
       (devices (g.P.Screen.shown l.screen) (g.P.Screen.faults l.screen) (g.T.Store.files l.store) (g.T.Store.faults l.store)) l.canvas l.number l.rest;
   ready : IsReady l.canvas l.number;
+  painted : 3 * l.canvas.painted + length l.rest * most_of_frame ≤ length l.script * most_of_frame;
   numbered : l.number + length l.rest ≤ length l.script + 1;
   faults : g.K.Sink.faults l.fn.sink ≤ g.K.Sink.faults l.sink;
 }

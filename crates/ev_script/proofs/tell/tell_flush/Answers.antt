@@ -14,6 +14,6 @@ pub returns-in-Shown-clause-told : goal.returns-in-Shown-clause-told
 returns-in-Shown-clause-told g c =
     let is = c.in-Ok.ensures in
     let u = c.updates-updates.result.now in
-    retold _ _ (ap₂ (λ w h. Shown c.frames-n.result w h u ∷ []) (c.width-w.ensures.width ∙ is.redrawn.width) (c.height-h.ensures.height ∙ is.redrawn.height)
+    retold _ _ (ap₂ (λ w h. Shown c.frames-n.result w h u ∷ []) (c.width-w.ensures.width ∙ is.drawn.width) (c.height-h.ensures.height ∙ is.drawn.height)
     ∙ ap₂ (λ n u. Shown n is.latest.entry.capture.w is.latest.entry.capture.h u ∷ []) (c.frames-n.ensures ∙ ap last_number is.newest) (c.updates-updates.ensures.value ∙ ap (λ d. d.updates) is.last)
     ∙ sym (ap (told_flush flushed.Shown) is.newest) ∙ ap (λ f. told_flush f c.args.canvas.now.frames.newest) (sym c.in-Shown.is)) c.tell_one.ensures.told

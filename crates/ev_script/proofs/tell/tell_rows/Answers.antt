@@ -8,7 +8,7 @@ pub returns-in-Ok-clause-told : goal.returns-in-Ok-clause-told
 returns-in-Ok-clause-told g c =
     let picture = c.in-Ok.picture.now in
     let is = c.in-Ok.ensures in
-    retold (picture_rows c.hidden.result.now picture) _ (ap (λ h. picture_rows h picture) (c.hidden.ensures.value ∙ ap (λ d. d.hidden) is.last) ∙ same_rows is.latest.entry picture is.redrawn ∙ printed_as rows c.args.line c.args.canvas.now.frames picture is)
+    retold (picture_rows c.hidden.result.now picture) _ (ap (λ h. picture_rows h picture) (c.hidden.ensures.value ∙ ap (λ d. d.hidden) is.last) ∙ same_rows is.latest.entry picture is.drawn ∙ printed_as rows c.args.line c.args.canvas.now.frames picture is)
     (record { whole = c.write_rows.ensures.ok; part = c.write_rows.ensures.err })
 
 pub returns-in-Err-clause-told : goal.returns-in-Err-clause-told

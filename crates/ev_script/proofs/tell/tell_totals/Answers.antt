@@ -11,7 +11,7 @@ returns-in-Ok-clause-told g c =
     let picture = c.in-Ok.picture.now in
     let is = c.in-Ok.ensures in
     retold _ _ (ap (λ reply. reply ∷ []) (c.reply.ensures ∙ c.of.ensures) ∙ ap (λ h. totals (places h picture) ∷ []) (c.hidden.ensures.value ∙ ap (λ d. d.hidden) is.last)
-    ∙ same_sums is.latest.entry picture is.redrawn ∙ printed_as sums c.args.line c.args.canvas.now.frames picture is) c.tell_one.ensures.told
+    ∙ same_sums is.latest.entry picture is.drawn ∙ printed_as sums c.args.line c.args.canvas.now.frames picture is) c.tell_one.ensures.told
 
 pub returns-in-Err-clause-told : goal.returns-in-Err-clause-told
 returns-in-Err-clause-told g c = retold _ _ (unprinted sums c.args.line c.args.canvas.now.frames.newest c.in-Err.cause c.in-Err.ensures) (rw c.cause_of.ensures at c.tell_refused.ensures.told)
