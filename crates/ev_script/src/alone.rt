@@ -34,8 +34,8 @@ pub enum Status {
 
 /// Reads a script from the source to its end, carries out its lines one after another, writes its
 /// log to the sink and shows its frames on the screen; images and fonts come from the store
-/// (docs/SCRIPT.md, docs/CANVAS.md). `words` are those of the command line. Of these `--cell` has
-/// its effect; whatever they say of buffers and workers, the caller itself draws each frame whole.
+/// (docs/SCRIPT.md, docs/CANVAS.md). `words` are those of the command line. Of these `--cell` and
+/// `--buffers` have their effect; whatever they say of workers, the caller itself draws all tiles.
 pub fn run_alone<S: Source, K: Sink, T: Store, P: Screen>(
     alloc: Global,
     words: &[&str],
